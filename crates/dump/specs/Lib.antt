@@ -1,0 +1,4 @@
+pub mod Arguments
+pub mod Counts
+pub mod Lines
+pub mod Reports

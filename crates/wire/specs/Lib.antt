@@ -1,0 +1,9 @@
+pub mod Blocks
+pub mod Cursor
+pub mod Faults
+pub mod Fields
+pub mod Outcomes
+pub mod ReadingLaw
+pub mod Segments
+pub mod Sessions
+pub mod Views
