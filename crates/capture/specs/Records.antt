@@ -5,6 +5,7 @@ use mathlib.Core.Path.{_≡_}
 use Prim.Native.Nat.{ℕ, _+_}
 use lib.Dec.{ltb}
 use lib.ListN.{length, take, drop}
+use Rattle.std.specs.Vec.{listOf}
 use Rattle.std.specs.declared.option.Option.{Option}
 use Rattle.std.specs.declared.option.Option.the-variants.{Some, None}
 use Rattle.wire.specs.Fields.{field}
@@ -24,6 +25,13 @@ cut-record bs = cond (ltb (length bs) 2) None (Some (drop 2 bs))
 abbrev pub Splits : List ℕ → List (List ℕ) → List ℕ → Type 0
 Splits bs [] rest = (first-record bs ≡ None) × (rest ≡ bs)
 Splits bs (r ∷ rs) rest = (after : List ℕ) × (first-record bs ≡ Some (r, after)) × Splits after rs rest
+
+-- Captures bs ds: the records of a whole capture are ds, the last with the bytes that are there where it was cut
+pub record Captures (bs : List ℕ) (ds : List (List ℕ)) : Type 0 where
+  pub whole : List (List ℕ)
+  pub rest : List ℕ
+  pub splits : Splits bs whole rest
+  pub all : ds ≡ whole ++ listOf (cut-record rest)
 
 -- the bytes that a cursor over records has yet to look at
 abbrev pub bytes-left : Records → List ℕ

@@ -4,15 +4,17 @@ use mathlib.Core.List.{List, [], _∷_, _++_, map, append-assoc}
 use Prim.Native.Nat.{ℕ, _+_, _-_, _≤_}
 use native.Mathlib.Omega.{arith}
 use lib.ListN.{length}
-use Rattle.std.proofs.shelf.Lists.{append-nil}
+use Rattle.std.proofs.shelf.Lists.{append-nil, map-append}
+use Rattle.std.specs.Vec.{listOf}
+use Rattle.std.specs.declared.option.Option.{Option}
 use Rattle.std.specs.declared.option.Option.the-variants.{Some, None}
 use Rattle.capture.proofs.RecordLaws.{shorter}
-use Rattle.capture.specs.Records.{first-record, Splits}
+use Rattle.capture.specs.Records.{first-record, cut-record, Splits}
 use Rattle.wire.specs.declared.address.Expected.{Expected}
 use Rattle.dump.specs.declared.line.Line.{Line}
 use Rattle.dump.specs.declared.totals.Totals.{Totals}
 use Rattle.dump.specs.Counts.{added, totals-of}
-use Rattle.dump.specs.Reports.{Reported, line-of, with-record, with-records, Reports}
+use Rattle.dump.specs.Reports.{Reported, line-of, with-record, with-records, with-cut, Reports, Ends-with-counts}
 use Rattle.dump.proofs.CountLaws.{one-more}
 
 -- the records before those that are left are done
@@ -61,3 +63,18 @@ all-done e before now bs left s f =
       reported = s .reported;
       counted = λ ls h. ap (λ (p : Reported). p .totals) (s .reported) ∙ counts e before (s .done) ls h;
     }
+
+-- the record that was cut, if there is one, is counted after the whole ones
+cut-counted : (e : Expected) (p : Reported) (ls : List Line) (o : Option (List ℕ)) → p .totals ≡ totals-of ls
+    → with-cut e p o .totals ≡ totals-of (ls ++ map (line-of e) (listOf o))
+cut-counted e p ls None h = h ∙ ap totals-of (sym (append-nil ls))
+cut-counted e p ls (Some d) h = ap (λ (t : Totals). added t (line-of e d)) h ∙ one-more ls (line-of e d)
+
+pub ends : (e : Expected) (rest : List ℕ) (p : Reported) (t : Totals) → t ≡ with-cut e p (cut-record rest) .totals
+    → Ends-with-counts e rest (p .totals) t
+ends e rest p t is seen f =
+    let lines = map (line-of e) (f .records) in (
+      f .records ++ listOf (cut-record rest),
+      record { whole = f .records; rest = rest; splits = f .splits; all = refl },
+      is ∙ (cut-counted e p lines (cut-record rest) (f .counted) ∙ ap totals-of (sym (map-append (line-of e) (f .records) (listOf (cut-record rest))))),
+    )

@@ -8,7 +8,7 @@ use Rattle.std.specs.Of.String.{string-bytes}
 use Rattle.std.specs.Written.{decimal}
 use Rattle.std.specs.declared.option.Option.{Option}
 use Rattle.std.specs.declared.option.Option.the-variants.{Some, None}
-use Rattle.capture.specs.Records.{Splits}
+use Rattle.capture.specs.Records.{Splits, Captures}
 use Rattle.wire.specs.declared.address.Expected.{Expected}
 use Rattle.wire.specs.Segments.{read-segment}
 use Rattle.dump.specs.declared.line.Line.{Line}
@@ -76,3 +76,11 @@ pub record Follows (e : Expected) (seen held : List ℕ) (t : Totals) : Type 0 w
 abbrev pub Follows-on : Expected → List ℕ → Totals → List ℕ → Totals → ℕ → Type 0
 Follows-on e held t held′ t′ n =
     (seen : List ℕ) → Follows e seen held t → (more : List ℕ) × (length more ≡ n) × Follows e (seen ++ more) held′ t′
+
+-- the counts of a whole capture
+abbrev pub Counts-capture : Expected → List ℕ → Totals → Type 0
+Counts-capture e bs t = (ds : List (List ℕ)) × Captures bs ds × (t ≡ totals-of (map (line-of e) ds))
+
+-- at the end of the input, what followed a capture has its counts
+abbrev pub Ends-with-counts : Expected → List ℕ → Totals → Totals → Type 0
+Ends-with-counts e rest t t′ = (seen : List ℕ) → Follows e seen rest t → Counts-capture e seen t′

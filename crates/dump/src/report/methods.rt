@@ -3,8 +3,8 @@ ghost use mathlib.Core.Path.{_≡_};
 ghost use mathlib.Core.List.{[]};
 ghost use Rattle.std.specs.Vec.{made};
 ghost use Rattle.capture.specs.Records.{cut-record};
-ghost use Rattle.dump.specs.Counts.{totals-of};
-ghost use Rattle.dump.specs.Reports.{view, with-record, with-cut, with-totals, Reports};
+ghost use Rattle.dump.specs.Counts.{added, totals-of};
+ghost use Rattle.dump.specs.Reports.{view, line-of, with-record, with-cut, with-totals, Reports, Follows, Ends-with-counts};
 use crate::line::LineDisplay;
 use crate::line::describe;
 use crate::report::Report;
@@ -22,6 +22,7 @@ impl Report {
     pub fn new(heap: Global, expected: Expected) -> Report
         ensures expected { λ r. ⌜ r .expected ≡ expected ⌝ }
         ensures view { λ r. ⌜ view r ≡ record { totals = totals-of []; text = [] } ⌝ }
+        ensures follows { λ r. ⌜ Follows expected [] [] (view r .totals) ⌝ }
     {
         Report {
             expected,
@@ -30,9 +31,10 @@ impl Report {
         }
     }
 
-    // Reports one record. Here and below, an error is one of memory, and says nothing of the report.
+    // Reports one record. An error is one of memory: the record is counted, and nothing is said of the text.
     pub fn add(&mut self, datagram: &[u8]) -> fmt::Result
         ensures expected { λ _. ⌜ now (self .exit) .expected ≡ now (self .entry) .expected ⌝ }
+        ensures counted { λ _. ⌜ now (self .exit) .totals ≡ added (now (self .entry) .totals) (line-of (now (self .entry) .expected) (now (datagram .entry))) ⌝ }
         ensures reported { λ r. ⌜ made r (λ _. view (now (self .exit)) ≡ with-record (now (self .entry) .expected) (view (now (self .entry))) (now (datagram .entry))) ⌝ }
     {
         let line = describe(datagram, &self.expected);
@@ -55,7 +57,8 @@ impl Report {
 
     // Reports what is left at the capture's end, a record that was cut or nothing, and the counts.
     pub fn finish(&mut self, rest: &[u8]) -> fmt::Result
-        ensures { λ r. ⌜ made r (λ _. view (now (self .exit)) ≡ with-totals (with-cut (now (self .entry) .expected) (view (now (self .entry))) (cut-record (now (rest .entry))))) ⌝ }
+        ensures reported { λ r. ⌜ made r (λ _. view (now (self .exit)) ≡ with-totals (with-cut (now (self .entry) .expected) (view (now (self .entry))) (cut-record (now (rest .entry))))) ⌝ }
+        ensures counted { λ r. ⌜ made r (λ _. Ends-with-counts (now (self .entry) .expected) (now (rest .entry)) (view (now (self .entry)) .totals) (view (now (self .exit)) .totals)) ⌝ }
     {
         self.add_cut(rest)?;
         self.add_totals()
