@@ -1,5 +1,5 @@
 -- Laws of blocks.
-use mathlib.Core.Path.{_≡_, refl, ap, sym, _∙_}
+use mathlib.Core.Path.{_≡_, ap, sym, _∙_}
 use mathlib.Core.List.{List, _∷_}
 use Prim.Native.Nat.{ℕ, zero, suc, _+_, _-_, _<_, _≤_}
 use native.Mathlib.Omega.{arith}
@@ -15,7 +15,7 @@ use Rattle.wire.specs.Blocks.{first-block, blocks, checked-blocks}
 use Rattle.wire.specs.Faults.{fault}
 use Rattle.wire.specs.Fields.{field}
 use Rattle.wire.specs.Outcomes.{map-ok, and-then}
-use Rattle.wire.proofs.Outcomes.{ok-not-err}
+use Rattle.wire.proofs.Outcomes.{ok-not-err, forget}
 
 abbrev pub Pair : Type 0
 Pair = List ℕ × List ℕ
@@ -58,10 +58,6 @@ block-and-rest at bs body rest =
 -- what is read after a first block
 abbrev pub after : ℕ → ℕ → Result Pair Fault → Result (List (List ℕ)) Fault
 after n at r = and-then r (λ (p : Pair). map-ok (λ (ms : List (List ℕ)). p .0 ∷ ms) (blocks n (at + (2 + length (p .0))) (p .1)))
-
-forget : {X Y : Type 0} (f : X → Y) (r : Result X Fault) → map-ok {Y = Unit {0}} (λ _. tt) (map-ok f r) ≡ map-ok (λ _. tt) r
-forget f (Ok x) = refl
-forget f (Err e) = refl
 
 pub checked-more : (n at : ℕ) (bs body rest : List ℕ) → 0 < n → Ok (body, rest) ≡ first-block at bs
     → checked-blocks n at bs ≡ checked-blocks (n - 1) (at + (2 + length body)) rest

@@ -1,6 +1,17 @@
 pub mod Blocks
+pub mod Buffers
 pub mod Cursor
+pub mod Fields
 pub mod Outcomes
 pub mod Reading
 pub mod ReadingLaw
+pub mod RequestLaw
+pub mod RequestReading
+pub mod RequestRoundTrip
+pub mod RequestWriting
+pub mod RequestWrote
+pub mod Requests
+pub mod RoundTrip
 pub mod Sessions
+pub mod Writing
+pub mod Wrote

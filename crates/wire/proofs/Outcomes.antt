@@ -21,6 +21,11 @@ pub map-ok-from : {X Y E : Type 0} (f : X → Y) (r : Result X E) (y : Y) → ma
 map-ok-from f (Ok x) y e = (x, refl, cc)
 map-ok-from f (Err d) y e = ok-not-err y d (sym e)
 
+-- an answer of which only its success is kept
+pub forget : {X Y : Type 0} (f : X → Y) (r : Result X Fault) → map-ok {Y = Unit {0}} (λ _. tt) (map-ok f r) ≡ map-ok (λ _. tt) r
+forget f (Ok x) = refl
+forget f (Err e) = refl
+
 -- the answer of checks that have nothing to say but a fault
 abbrev pub Checked : Type 0
 Checked = Result (Unit {0}) Fault
@@ -52,6 +57,17 @@ number-of c = entry-of (c .gives .refusal) .number
 abbrev pub None-fails : List Check → Type 0
 None-fails [] = Unit {0}
 None-fails (c ∷ cs) = (c .fails ≡ false) × None-fails cs
+
+pub none-fails : {X : Type 0} (cs : List Check) (r : Result X Fault) → None-fails cs → first-fault cs r ≡ r
+none-fails [] r h = refl
+none-fails (c ∷ cs) r h = cond-false _ _ _ (h .0) ∙ none-fails cs r (h .1)
+
+-- an answer that came past the checks
+pub past-checks : {X : Type 0} (cs : List Check) (r : Result X Fault) (x : X) → first-fault cs r ≡ Ok x → None-fails cs × (r ≡ Ok x)
+past-checks [] r x = λ e. (tt, e)
+past-checks (c ∷ cs) r x =
+    cond-both (c .fails) (Err (c .gives)) (first-fault cs r) (λ q. q ≡ Ok x → None-fails (c ∷ cs) × (r ≡ Ok x))
+    (λ _ e. ok-not-err x (c .gives) (sym e)) (λ t e. let p = past-checks cs r x e in ((t, p .0), p .1))
 
 -- what holds of the fault of each check that fails after none before it did
 abbrev pub Each : (Fault → Type 0) → List Check → Type 0

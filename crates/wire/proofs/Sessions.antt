@@ -8,7 +8,7 @@ use Rattle.std.proofs.shelf.Lists.{take-more, drop-more, length-take-le}
 use Rattle.wire.specs.Cursor.{numbered}
 use Rattle.wire.specs.Sessions.{span, place-of, message-of, All-of-session, Places-run-on, True-messages, True-parts}
 
-span-push : (ms : List (List ℕ)) (m : List ℕ) → span (ms ++ m ∷ []) ≡ span ms + 2 + length m
+pub span-push : (ms : List (List ℕ)) (m : List ℕ) → span (ms ++ m ∷ []) ≡ span ms + 2 + length m
 span-push [] m = omega arith
 span-push (x ∷ ms) m = omega (arith, span-push ms m)
 

@@ -1,9 +1,15 @@
 pub mod Blocks
+pub mod Buffers
 pub mod Cursor
 pub mod Faults
 pub mod Fields
 pub mod Outcomes
 pub mod ReadingLaw
+pub mod RequestLaw
+pub mod RequestWriting
+pub mod Requests
+pub mod RoundTrip
 pub mod Segments
 pub mod Sessions
 pub mod Views
+pub mod Writing

@@ -6,9 +6,7 @@ ghost use Rattle.wire.specs.Blocks.{first-block, checked-blocks};
 ghost use Rattle.wire.specs.Outcomes.{map-ok};
 use crate::fault::Fault;
 use crate::fault::Refusal;
-
-// The most data that a block may have.
-const MAX_MESSAGE: u16 = 1430;
+use crate::limits::MAX_MESSAGE;
 
 // The data of the block at the front of `bytes`, and what follows the block. A fault is found at `place`, where `bytes` begin.
 pub(crate) fn first_block(bytes: &[u8], place: u64) -> Result<(&[u8], &[u8]), Fault>
@@ -17,11 +15,11 @@ pub(crate) fn first_block(bytes: &[u8], place: u64) -> Result<(&[u8], &[u8]), Fa
     let Some((length, rest)) = bytes.split_first_chunk::<2>() else {
         return Err(Refusal::BlocksDisagree.at(place));
     };
-    let length = u16::from_le_bytes(*length);
+    let length = usize::from(u16::from_le_bytes(*length));
     if length > MAX_MESSAGE {
         return Err(Refusal::LongBlock.at(place));
     }
-    match rest.split_at_checked(usize::from(length)) {
+    match rest.split_at_checked(length) {
         Some(parts) => Ok(parts),
         None => Err(Refusal::BlocksDisagree.at(place)),
     }

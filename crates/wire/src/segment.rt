@@ -1,7 +1,11 @@
 // A segment: a header of 40 bytes, then its messages, one block each.
 mod reading;
+mod writing;
 
 pub use self::reading::read;
+pub use self::writing::Bodies;
+pub use self::writing::SlicesBodies;
+pub use self::writing::write;
 use crate::address::Address;
 use crate::address::AddressDebug;
 use crate::messages::Messages;

@@ -1,42 +1,43 @@
-// The table of cases for the segment reader. Each answer was worked out by hand from `docs/PROTOCOL.md` and `docs/REFUSALS.md`.
-use crate::cases::Answer::Messages;
+// Tables of cases for the segment reader. Each answer was worked out by hand from `docs/PROTOCOL.md` and `docs/REFUSALS.md`.
+use crate::cases::Answer::Accepted;
 use crate::cases::Answer::Refused;
 
-// What is expected of the reader: how many messages, or a refusal by number and place.
+// What is expected of a reader: how many messages or ranges, or a refusal by number and place.
 #[derive(Clone, Copy)]
 pub enum Answer {
-    Messages(u16),
+    Accepted(u16),
     Refused(u8, u64),
 }
 
 // A place, and the bytes that are written there.
 pub type Patch = (usize, &'static [u8]);
 
-// A name; the length of a datagram; patches; the answer. The header names version 1, protocol 0x8004, channel 1,
-// session 0x42870000, the payload's true length and number 1; all else is 0 but for the patches.
+// A name; the length of a datagram or a request; patches; the answer. The header names version 1, protocol 0x8004, channel 1 and
+// session 0x42870000. That of a datagram names the payload's true length and number 1; that of a request names type 1 and as many
+// ranges as there is room for. All else is 0 but for the patches.
 pub type Case = (&'static str, usize, &'static [Patch], Answer);
 
 // Longs: the largest, some below it, -1 and the least.
-const MAX: &[u8] = &[255, 255, 255, 255, 255, 255, 255, 127];
+pub const MAX: &[u8] = &[255, 255, 255, 255, 255, 255, 255, 127];
 
 const MAX_LESS_1: &[u8] = &[254, 255, 255, 255, 255, 255, 255, 127];
 
 const MAX_LESS_2: &[u8] = &[253, 255, 255, 255, 255, 255, 255, 127];
 
-const MINUS_1: &[u8] = &[255, 255, 255, 255, 255, 255, 255, 255];
+pub const MINUS_1: &[u8] = &[255, 255, 255, 255, 255, 255, 255, 255];
 
-const LEAST: &[u8] = &[0, 0, 0, 0, 0, 0, 0, 128];
+pub const LEAST: &[u8] = &[0, 0, 0, 0, 0, 0, 0, 128];
 
 // The datagram's size.
 pub const SIZES: [Case; 5] = [
     ("no bytes", 0, &[], Refused(1, 0)),
     ("39 bytes", 39, &[], Refused(1, 39)),
-    ("40 bytes, a heartbeat", 40, &[], Messages(0)),
+    ("40 bytes, a heartbeat", 40, &[], Accepted(0)),
     (
         "65,535 bytes",
         65535,
         &[(14, &[0xeb, 0x7f]), (40, &[1])],
-        Messages(32747),
+        Accepted(32747),
     ),
     ("65,536 bytes", 65536, &[], Refused(2, 65535)),
 ];
@@ -45,7 +46,7 @@ pub const SIZES: [Case; 5] = [
 pub const FIELDS: [Case; 26] = [
     ("version 0", 40, &[(0, &[0])], Refused(3, 0)),
     ("version 2", 40, &[(0, &[2])], Refused(3, 0)),
-    ("any reserved byte", 40, &[(1, &[255])], Messages(0)),
+    ("any reserved byte", 40, &[(1, &[255])], Accepted(0)),
     ("protocol 0x8005", 40, &[(2, &[5])], Refused(4, 2)),
     ("protocol 0x0004", 40, &[(3, &[0])], Refused(4, 2)),
     ("channel 0", 40, &[(4, &[0])], Refused(5, 4)),
@@ -78,7 +79,7 @@ pub const FIELDS: [Case; 26] = [
         &[(24, LEAST)],
         Refused(8, 24),
     ),
-    ("number Z, no block", 40, &[(24, MAX)], Messages(0)),
+    ("number Z, no block", 40, &[(24, MAX)], Accepted(0)),
     (
         "number Z, one block",
         42,
@@ -89,7 +90,7 @@ pub const FIELDS: [Case; 26] = [
         "number Z - 1, one block",
         42,
         &[(14, &[1]), (24, MAX_LESS_1)],
-        Messages(1),
+        Accepted(1),
     ),
     (
         "number Z - 1, two blocks",
@@ -104,7 +105,7 @@ pub const FIELDS: [Case; 26] = [
         &[(16, LEAST)],
         Refused(8, 16),
     ),
-    ("offset Z, no payload", 40, &[(16, MAX)], Messages(0)),
+    ("offset Z, no payload", 40, &[(16, MAX)], Accepted(0)),
     (
         "offset Z, payload 2",
         42,
@@ -115,7 +116,7 @@ pub const FIELDS: [Case; 26] = [
         "offset Z - 2, payload 2",
         42,
         &[(14, &[1]), (16, MAX_LESS_2)],
-        Messages(1),
+        Accepted(1),
     ),
     (
         "offset Z - 2, payload 3",
@@ -127,11 +128,11 @@ pub const FIELDS: [Case; 26] = [
         "the least Long as send time",
         40,
         &[(32, LEAST)],
-        Messages(0),
+        Accepted(0),
     ),
 ];
 
-// A patch that makes a heartbeat wrong in one way, and the answer to it.
+// A patch that makes a heartbeat, or a request with no ranges, wrong in one way, and the answer to it.
 pub type Wrong = (Patch, Answer);
 
 // One for each refusal of the header past its size, in the order in which they are given.
@@ -155,13 +156,13 @@ pub const PAIRS: [Case; 4] = [
 
 // Blocks at their edges, and past them.
 pub const BLOCKS: [Case; 18] = [
-    ("length 0", 42, &[(14, &[1])], Messages(1)),
-    ("length 1", 43, &[(14, &[1]), (40, &[1])], Messages(1)),
+    ("length 0", 42, &[(14, &[1])], Accepted(1)),
+    ("length 1", 43, &[(14, &[1]), (40, &[1])], Accepted(1)),
     (
         "length 1,430",
         1472,
         &[(14, &[1]), (40, &[0x96, 5])],
-        Messages(1),
+        Accepted(1),
     ),
     (
         "length 1,431",

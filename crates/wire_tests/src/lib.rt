@@ -1,5 +1,11 @@
-// Tests of the crate `wire`: what the reader answers at the edges of every rule.
+// Tests of the crate `wire`: what its readers answer at the edges of every rule, and what its writers leave.
 #[cfg(test)]
 mod cases;
 #[cfg(test)]
+mod example;
+#[cfg(test)]
+mod request_cases;
+#[cfg(test)]
 mod tests;
+#[cfg(test)]
+mod writing;

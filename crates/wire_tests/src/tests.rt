@@ -1,4 +1,4 @@
-// What the reader answers.
+// What the readers answer.
 use crate::cases::Answer;
 use crate::cases::BLOCKS;
 use crate::cases::Case;
@@ -8,24 +8,62 @@ use crate::cases::Patch;
 use crate::cases::SIZES;
 use crate::cases::WRONGS;
 use crate::cases::Wrong;
+use crate::example::REQUEST;
+use crate::example::SEGMENT;
+use crate::example::TEST_REQUEST;
+use crate::request_cases::BYTE_RANGES;
+use crate::request_cases::RANGES;
+use crate::request_cases::REQUEST_FIELDS;
+use crate::request_cases::REQUEST_SIZES;
+use crate::request_cases::REQUEST_WRONGS;
+use crate::request_cases::STREAM_REQUESTS;
 use std::alloc::AllocError;
 use std::alloc::Global;
 use std::test::*;
+use wire::address::Address;
 use wire::address::Expected;
 use wire::fault::FaultDisplay;
 use wire::fault::Refusal;
 use wire::messages::MessagesIterator;
+use wire::request;
+use wire::request::ByBytes;
+use wire::request::ByBytesKind;
+use wire::request::ByNumbers;
+use wire::request::ByNumbersKind;
+use wire::request::ExpectedRequest;
+use wire::request::RangeKind;
+use wire::request::RangesIterator;
+use wire::request::Transport;
 use wire::segment::Content;
 use wire::segment::read;
 
-const EXPECTED: Expected = Expected {
+pub const ADDRESS: Address = Address {
+    protocol: 0x8004,
+    channel: 1,
+    session: 0x4287_0000,
+};
+
+pub const EXPECTED: Expected = Expected {
     protocol: 0x8004,
     channel: 1,
     session: Some(0x4287_0000),
 };
 
+// By datagrams, and nothing requested before.
+pub const BY_DATAGRAM: ExpectedRequest = ExpectedRequest {
+    address: ADDRESS,
+    transport: Transport::Datagram,
+    after: None,
+};
+
+const BY_STREAM_AFTER_9: ExpectedRequest = ExpectedRequest {
+    address: ADDRESS,
+    transport: Transport::Stream,
+    after: Some(9),
+};
+
 // The first bytes of a right header: version, reserved byte, protocol, channel, session.
-const ADDRESS: Patch = (0, &[1, 0, 4, 0x80, 1, 0, 0, 0, 0, 0, 0x87, 0x42]);
+const FRONT: Patch = (0, &[1, 0, 4, 0x80, 1, 0, 0, 0, 0, 0, 0x87, 0x42]);
 
 // Writes bytes over a part of a datagram, as far as there is room.
 fn put(datagram: &mut Vec<u8>, at: usize, bytes: &[u8]) {
@@ -36,26 +74,73 @@ fn put(datagram: &mut Vec<u8>, at: usize, bytes: &[u8]) {
     }
 }
 
-fn datagram(heap: Global, length: usize, patches: &[Patch]) -> Result<Vec<u8>, AllocError> {
+// A reader under test.
+trait Reading {
+    // how many bytes the shortest input has with which nothing is wrong
+    const SHORTEST: usize;
+
+    // An input that is right but for the patches: a request, unless the reader is of something else.
+    fn input(heap: Global, length: usize, patches: &[Patch]) -> Result<Vec<u8>, AllocError> {
+        request_input(heap, length, patches)
+    }
+
+    fn agrees(input: &[u8], answer: Answer) -> bool;
+}
+
+struct Segments;
+
+impl Reading for Segments as SegmentsReading {
+    const SHORTEST: usize = 40;
+
+    fn input(heap: Global, length: usize, patches: &[Patch]) -> Result<Vec<u8>, AllocError> {
+        let mut bytes = vec![in heap; 0u8; length]?;
+        let payload = length.saturating_sub(40) % 65536;
+        put(&mut bytes, FRONT.0, FRONT.1);
+        put(&mut bytes, 12, &(payload as u16).to_le_bytes());
+        put(&mut bytes, 24, &[1]);
+        for patch in patches {
+            put(&mut bytes, patch.0, patch.1);
+        }
+        Ok(bytes)
+    }
+
+    fn agrees(input: &[u8], answer: Answer) -> bool {
+        match (read(input, &EXPECTED), answer) {
+            (Ok(segment), Answer::Accepted(count)) => {
+                let mut handed = 0u16;
+                for _ in segment.content.messages() {
+                    handed = handed.saturating_add(1);
+                }
+                handed == count && segment.header.count == count
+            }
+            (Err(fault), Answer::Refused(number, place)) => {
+                fault.refusal.number() == number && fault.place == place
+            }
+            _ => false,
+        }
+    }
+}
+
+fn request_input(heap: Global, length: usize, patches: &[Patch]) -> Result<Vec<u8>, AllocError> {
     let mut bytes = vec![in heap; 0u8; length]?;
-    let payload = length.saturating_sub(40) % 65536;
-    put(&mut bytes, ADDRESS.0, ADDRESS.1);
-    put(&mut bytes, 12, &(payload as u16).to_le_bytes());
-    put(&mut bytes, 24, &[1]);
+    let ranges = length.saturating_sub(16) / 16 % 65536;
+    put(&mut bytes, FRONT.0, FRONT.1);
+    put(&mut bytes, 1, &[1]);
+    put(&mut bytes, 12, &(ranges as u16).to_le_bytes());
     for patch in patches {
         put(&mut bytes, patch.0, patch.1);
     }
     Ok(bytes)
 }
 
-fn agrees(datagram: &[u8], answer: Answer) -> bool {
-    match (read(datagram, &EXPECTED), answer) {
-        (Ok(segment), Answer::Messages(count)) => {
+fn request_agrees<K: RangeKind>(input: &[u8], expected: &ExpectedRequest, answer: Answer) -> bool {
+    match (request::read::<K>(input, expected), answer) {
+        (Ok(ranges), Answer::Accepted(count)) => {
             let mut handed = 0u16;
-            for _ in segment.content.messages() {
+            for _ in ranges {
                 handed = handed.saturating_add(1);
             }
-            handed == count && segment.header.count == count
+            handed == count
         }
         (Err(fault), Answer::Refused(number, place)) => {
             fault.refusal.number() == number && fault.place == place
@@ -64,165 +149,105 @@ fn agrees(datagram: &[u8], answer: Answer) -> bool {
     }
 }
 
-fn all_agree(heap: Global, cases: &[Case]) -> Result<(), Fail> {
+struct RequestsByNumbers;
+
+impl Reading for RequestsByNumbers as RequestsByNumbersReading {
+    const SHORTEST: usize = 16;
+
+    fn agrees(input: &[u8], answer: Answer) -> bool {
+        request_agrees::<ByNumbers>(input, &BY_DATAGRAM, answer)
+    }
+}
+
+struct RequestsByBytes;
+
+impl Reading for RequestsByBytes as RequestsByBytesReading {
+    const SHORTEST: usize = 16;
+
+    fn agrees(input: &[u8], answer: Answer) -> bool {
+        request_agrees::<ByBytes>(input, &BY_DATAGRAM, answer)
+    }
+}
+
+struct StreamRequests;
+
+impl Reading for StreamRequests as StreamRequestsReading {
+    const SHORTEST: usize = 32;
+
+    fn agrees(input: &[u8], answer: Answer) -> bool {
+        request_agrees::<ByNumbers>(input, &BY_STREAM_AFTER_9, answer)
+    }
+}
+
+fn all_agree<R: Reading>(heap: Global, cases: &[Case]) -> Result<(), Fail> {
     for case in cases {
-        let bytes = datagram(heap, case.1, case.2)?;
-        check(agrees(bytes.as_slice(), case.3)).note(case.0)?;
+        let bytes = R::input(heap, case.1, case.2)?;
+        check(R::agrees(bytes.as_slice(), case.3)).note(case.0)?;
+    }
+    Ok(())
+}
+
+// Wrong in the first way, alone or with one of the others: the answer to the first is given.
+fn first_wins<R: Reading>(heap: Global, first: &Wrong, others: &[Wrong]) -> Result<(), Fail> {
+    for other in others {
+        let bytes = R::input(heap, R::SHORTEST, &[first.0, other.0])?;
+        check(R::agrees(bytes.as_slice(), first.1))?;
     }
     Ok(())
 }
 
 #[test]
 fn sizes(rt: LibcRuntime) -> Result<(), Fail> {
-    all_agree(rt.alloc(), &SIZES)
+    all_agree::<Segments>(rt.alloc(), &SIZES)?;
+    all_agree::<RequestsByNumbers>(rt.alloc(), &REQUEST_SIZES)
 }
 
 #[test]
 fn fields(rt: LibcRuntime) -> Result<(), Fail> {
-    all_agree(rt.alloc(), &FIELDS)
-}
-
-// Wrong in the first way, alone or with one of the others: the answer to the first is given.
-fn first_wins(heap: Global, first: &Wrong, others: &[Wrong]) -> Result<(), Fail> {
-    for other in others {
-        let bytes = datagram(heap, 40, &[first.0, other.0])?;
-        check(agrees(bytes.as_slice(), first.1))?;
-    }
-    Ok(())
+    all_agree::<Segments>(rt.alloc(), &FIELDS)?;
+    all_agree::<RequestsByNumbers>(rt.alloc(), &REQUEST_FIELDS)
 }
 
 #[test]
 fn pairs(rt: LibcRuntime) -> Result<(), Fail> {
     for i in 0..WRONGS.len() {
-        first_wins(rt.alloc(), &WRONGS[i], &WRONGS[i..])?;
+        first_wins::<Segments>(rt.alloc(), &WRONGS[i], &WRONGS[i..])?;
     }
-    all_agree(rt.alloc(), &PAIRS)
+    for i in 0..REQUEST_WRONGS.len() {
+        first_wins::<RequestsByNumbers>(rt.alloc(), &REQUEST_WRONGS[i], &REQUEST_WRONGS[i..])?;
+    }
+    all_agree::<Segments>(rt.alloc(), &PAIRS)
 }
 
 #[test]
 fn blocks(rt: LibcRuntime) -> Result<(), Fail> {
-    all_agree(rt.alloc(), &BLOCKS)
+    all_agree::<Segments>(rt.alloc(), &BLOCKS)
 }
 
-// The example segment of the transport's specification: a trade report and a price level update.
-const EXAMPLE: [u8; 112] = [
-    0x01,
-    0x00,
-    0x04,
-    0x80,
-    0x01,
-    0x00,
-    0x00,
-    0x00,
-    0x00,
-    0x00,
-    0x87,
-    0x42,
-    0x48,
-    0x00,
-    0x02,
-    0x00,
-    0x8c,
-    0xa6,
-    0x21,
-    0x00,
-    0x00,
-    0x00,
-    0x00,
-    0x00,
-    0xca,
-    0xc3,
-    0x00,
-    0x00,
-    0x00,
-    0x00,
-    0x00,
-    0x00,
-    0xec,
-    0x45,
-    0xc2,
-    0x20,
-    0x96,
-    0x86,
-    0x6d,
-    0x14,
-    0x26,
-    0x00,
-    0x54,
-    0x00,
-    0xac,
-    0x63,
-    0xc0,
-    0x20,
-    0x96,
-    0x86,
-    0x6d,
-    0x14,
-    0x5a,
-    0x49,
-    0x45,
-    0x58,
-    0x54,
-    0x20,
-    0x20,
-    0x20,
-    0x64,
-    0x00,
-    0x00,
-    0x00,
-    0x24,
-    0x1d,
-    0x0f,
-    0x00,
-    0x00,
-    0x00,
-    0x00,
-    0x00,
-    0x96,
-    0x8f,
-    0x06,
-    0x00,
-    0x00,
-    0x00,
-    0x00,
-    0x00,
-    0x1e,
-    0x00,
-    0x38,
-    0x01,
-    0xac,
-    0x63,
-    0xc0,
-    0x20,
-    0x96,
-    0x86,
-    0x6d,
-    0x14,
-    0x5a,
-    0x49,
-    0x45,
-    0x58,
-    0x54,
-    0x20,
-    0x20,
-    0x20,
-    0xe4,
-    0x25,
-    0x00,
-    0x00,
-    0x24,
-    0x1d,
-    0x0f,
-    0x00,
-    0x00,
-    0x00,
-    0x00,
-    0x00,
-];
+#[test]
+fn ranges(rt: LibcRuntime) -> Result<(), Fail> {
+    all_agree::<RequestsByNumbers>(rt.alloc(), &RANGES)?;
+    all_agree::<RequestsByBytes>(rt.alloc(), &BYTE_RANGES)?;
+    all_agree::<StreamRequests>(rt.alloc(), &STREAM_REQUESTS)
+}
+
+#[test]
+fn example_request() -> Result<(), Fail> {
+    let Ok(mut ranges) = request::read::<ByNumbers>(&REQUEST, &BY_DATAGRAM) else {
+        return Err(Fail::new("refused"));
+    };
+    let (Some(first), Some(second)) = (ranges.next(), ranges.next()) else {
+        return Err(Fail::new("two ranges"));
+    };
+    check(ranges.next().is_none())?;
+    check(first.first == 12_340 && first.last == 12_350)?;
+    check(second.first == 56_789 && second.last == 56_799)?;
+    check(request_agrees::<ByNumbers>(&TEST_REQUEST, &BY_DATAGRAM, Answer::Accepted(0)))
+}
 
 #[test]
 fn example_header() -> Result<(), Fail> {
-    let Ok(segment) = read(&EXAMPLE, &EXPECTED) else {
+    let Ok(segment) = read(&SEGMENT, &EXPECTED) else {
         return Err(Fail::new("refused"));
     };
     let header = segment.header;
@@ -238,7 +263,7 @@ fn example_header() -> Result<(), Fail> {
 
 #[test]
 fn example_messages() -> Result<(), Fail> {
-    let Ok(segment) = read(&EXAMPLE, &EXPECTED) else {
+    let Ok(segment) = read(&SEGMENT, &EXPECTED) else {
         return Err(Fail::new("refused"));
     };
     let mut messages = segment.content.messages();
@@ -248,10 +273,10 @@ fn example_messages() -> Result<(), Fail> {
     check(messages.next().is_none())?;
     check_eq(trade.number, 50_122)?;
     check_eq(trade.place, 2_205_324)?;
-    check_eq(trade.body, &EXAMPLE[42..80])?;
+    check_eq(trade.body, &SEGMENT[42..80])?;
     check_eq(update.number, 50_123)?;
     check_eq(update.place, 2_205_364)?;
-    check_eq(update.body, &EXAMPLE[82..112])
+    check_eq(update.body, &SEGMENT[82..112])
 }
 
 #[test]
@@ -264,10 +289,10 @@ fn heartbeat_and_any_session() -> Result<(), Fail> {
         session: Some(0x4287_0001),
         ..EXPECTED
     };
-    let mut heartbeat = EXAMPLE;
+    let mut heartbeat = SEGMENT;
     heartbeat[12] = 0;
     heartbeat[14] = 0;
-    check(read(&EXAMPLE, &other).is_err())?;
+    check(read(&SEGMENT, &other).is_err())?;
     match read(&heartbeat[0..40], &any) {
         Ok(segment) => check(matches!(segment.content, Content::Heartbeat)),
         Err(_) => Err(Fail::new("refused")),

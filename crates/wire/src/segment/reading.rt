@@ -17,19 +17,14 @@ use crate::fault::Refusal;
 use crate::field::u16_at;
 use crate::field::u32_at;
 use crate::field::u64_at;
+use crate::limits::LONG_MAX;
+use crate::limits::MAX_DATAGRAM;
+use crate::limits::VERSION;
 use crate::messages::Messages;
 use crate::segment::Content;
 use crate::segment::HEADER_LEN;
 use crate::segment::Header;
 use crate::segment::Segment;
-
-// The most bytes of a datagram.
-const MAX_DATAGRAM: usize = 65535;
-
-const VERSION: u8 = 1;
-
-// The largest Long. A field of a negative Long reads as a number above it.
-const LONG_MAX: u64 = 0x7fff_ffff_ffff_ffff;
 
 fn check_size(datagram: &[u8]) -> Result<(), Fault>
     ensures { λ r. ⌜ r ≡ first-fault (size-checks (now (datagram .entry))) (Ok tt) ⌝ }
