@@ -32,10 +32,10 @@ fn number_up_to(most: u32, text: &str, wrong: &str) -> anyhow::Result<u32>
     ensures { ReadsUpTo most text.now result }
 {
     let Ok(n) = number(text) else {
-        return Err(wrong.into());
+        return Err(anyhow!("{wrong}"));
     };
     if n > most {
-        return Err(wrong.into());
+        return Err(anyhow!("{wrong}"));
     }
     Ok(n)
 }

@@ -1,4 +1,6 @@
 // Reads a capture from standard input, and prints what each record says and how much there is of everything.
+#![tactic(auto)]
+
 mod arguments;
 mod follow;
 mod line;

@@ -1,13 +1,12 @@
 -- The laws of every store.
-use Rattle.std.proofs.Common.{◌≡◌, ℕ, suc, ◌+◌, ◌-◌, ◌<◌, ◌≤◌, Bool, true, false, cond, ◌&&◌, leb, List, [], length, get_or, take, Some, None, Option, sym, refl, ap, ◌∙◌, ⊎_elim, arith}
+use Rattle.std.proofs.Common.{◌≡◌, ℕ, ◌+◌, ◌-◌, ◌<◌, ◌≤◌, true, false, leb, List, [], length, get_or, take, Some, None, sym, ap, ◌∙◌, ⊎_elim, arith}
 use Rattle.std.proofs.lemmas.List.{take_all}
-use Rattle.std.proofs.lemmas.Bool.{cases_lt, cases_order, cond_both, cond-true, cond-false, and_parts, and_from, and_left, and_right, leb-true, le-leb, lt-leb}
+use Rattle.std.proofs.lemmas.Bool.{cases_order, cond_both, cond-true, cond-false, and_parts, and_from, and_left, and_right, leb-true, le-leb, lt-leb}
 use Rattle.wire.specs.Sessions.{span, place_of, message_of}
 use Rattle.wire.proofs.Sessions.{places_run_on}
-use Rattle.wire.proofs.Writing.{span_more}
-use Rattle.store.specs.Laws.{Stands, HasByte, PlacesFit, BytesTouchOne}
-use Rattle.store.specs.Stores.{inside, where_inside, length_at, place_at, touching_at}
-use Rattle.store.proofs.Touching.{span_rises, Holds, touching_is, holder, touching_none}
+use Rattle.store.specs.Laws.{Stands, PlacesFit, BytesTouchOne}
+use Rattle.store.specs.Stores.{inside, where_inside}
+use Rattle.store.proofs.Touching.{span_rises, touching_is, holder, touching_none}
 
 pub inside_from : (ms : List (List ℕ)) (n : ℕ) → 1 ≤ n → n ≤ length ms → inside ms n ≡ true
 inside_from ms n low high = and_from _ _ (le-leb 1 n low) (le-leb n (length ms) high)

@@ -1,5 +1,5 @@
 -- The law of reading: the header's conditions, the blocks' conditions, and the two together.
-use Rattle.std.proofs.Common.{◌≡◌, ℕ, zero, suc, ◌+◌, ◌-◌, ◌<◌, ◌≤◌, true, false, not, eqb, ltb, ◌⊎◌, List, [], ◌∷◌, length, take, drop, Some, None, Ok, Err, Option, Result, sym, refl, ap, ◌∙◌, subst, inl, inr, ⊎_elim, arith, lit≤, length-drop, below_more}
+use Rattle.std.proofs.Common.{◌≡◌, ℕ, zero, suc, ◌+◌, ◌-◌, ◌<◌, ◌≤◌, true, not, eqb, ltb, List, [], ◌∷◌, length, take, drop, Some, None, Ok, Err, Option, Result, sym, refl, ap, ◌∙◌, subst, inl, inr, ⊎_elim, arith, lit≤, length-drop, below_more}
 use Rattle.std.proofs.lemmas.List.{length-take-le, drop-drop}
 use Rattle.std.proofs.lemmas.Bool.{cond_both, cases_order, cases_eq, cases_lt, eqb-true, eqb-false, ne_eqb, ltb-true, ltb-false, lt-ltb, not-true, not-false, not_from_false, or_cases, or_parts, or_left, or_right, false≢true}
 use Rattle.wire.specs.declared.address.Expected.{Expected}

@@ -1,9 +1,6 @@
 // Why something was refused, by which layer, and at which byte.
-ghost use Rattle.std.specs.Prelude.{◌≡◌, Some, Decides};
+ghost use Rattle.std.specs.Prelude.{◌≡◌, Some};
 ghost use Rattle.wire.specs.Faults.{entry_of, fault, layer_text, fault_text};
-ghost use Rattle.std.specs.Cmp.Rules.{comparing};
-ghost use Rattle.std.proofs.Common.{rules};
-ghost use Rattle.std.specs.Cmp as Keys;
 
 use std::fmt;
 
@@ -20,7 +17,7 @@ pub enum Layer {
 }
 
 // What is wrong. `docs/REFUSALS.md` has the table, with the place of each.
-#[derive(Clone, Copy, Debug)]
+#[derive(Clone, Copy, Debug, PartialEq, Eq)]
 pub enum Refusal {
     ShortDatagram,
     LongDatagram,
@@ -142,21 +139,6 @@ impl Refusal {
             place,
         }
     }
-}
-
-// Two refusals are the same exactly when their numbers are.
-impl PartialEq for Refusal {
-    ghost equals = { λ x y r. Decides r (x ≡ y) };
-
-    ghost laws = { Keys.partial_equiv_from_equiv (Prim.search (comparing, rules)) };
-
-    fn eq(&self, other: &Refusal) -> bool {
-        self.number() == other.number()
-    }
-}
-
-impl Eq for Refusal {
-    ghost laws = { Prim.search (comparing, rules) };
 }
 
 // A layer's name, in lower case.

@@ -1,4 +1,6 @@
 // Tests of the crate `wire`: what its readers answer at the edges of every rule, and what its writers leave.
+#![tactic(auto)]
+
 #[cfg(test)]
 mod cases;
 #[cfg(test)]

@@ -46,10 +46,10 @@ fn segment_written_again(rt: HostRuntime) -> Result<(), Fail> {
     let mut out = [0xee; 115];
     assert!(rt; wrote(write(&mut out, &segment.header, &bodies), 112));
     assert_eq!(rt; &out[0..112], &SEGMENT[0..112]);
-    assert_eq!(rt; &out[112..115], &[0xee; 3]);
+    assert_eq!(rt; &out[112..115], [0xee; 3].as_slice());
     let mut short = [0xee; 111];
     assert!(rt; refused(write(&mut short, &segment.header, &bodies), 24));
-    assert_eq!(rt; &short[0..111], &[0xee; 111]);
+    assert_eq!(rt; &short[0..111], [0xee; 111].as_slice());
     Ok(())
 }
 
@@ -59,7 +59,7 @@ fn heartbeat_written(rt: HostRuntime) -> Result<(), Fail> {
     let none = &one[0..0];
     let mut out = [0xee; 41];
     assert!(rt; refused(write(&mut out[0..39], &HEADER, &none), 24));
-    assert_eq!(rt; &out[0..41], &[0xee; 41]);
+    assert_eq!(rt; &out[0..41], [0xee; 41].as_slice());
     assert!(rt; wrote(write(&mut out, &HEADER, &none), 40));
     assert_eq!(rt; out[40], 0xee);
     match read(&out[0..40], &EXPECTED) {
@@ -139,7 +139,7 @@ fn request_written(rt: HostRuntime) {
             24,
         )
     );
-    assert_eq!(rt; &out[0..50], &[0xee; 50]);
+    assert_eq!(rt; &out[0..50], [0xee; 50].as_slice());
     assert!(rt;
         wrote(
             request::write::<ByNumbers>(&mut out, &ADDRESS, &EXAMPLE_RANGES),
@@ -147,7 +147,7 @@ fn request_written(rt: HostRuntime) {
         )
     );
     assert_eq!(rt; &out[0..48], &REQUEST[0..48]);
-    assert_eq!(rt; &out[48..50], &[0xee; 2]);
+    assert_eq!(rt; &out[48..50], [0xee; 2].as_slice());
     assert!(rt; wrote(request::write::<ByNumbers>(&mut out, &ADDRESS, &[]), 16));
     assert_eq!(rt; &out[0..16], &TEST_REQUEST[0..16]);
 }

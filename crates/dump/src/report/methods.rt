@@ -8,8 +8,7 @@ use crate::line::describe;
 use crate::report::Report;
 use crate::totals::Totals;
 use capture::records::{Records, cut_record};
-use std::alloc::Global;
-use std::fmt;
+use std::alloc::{AllocError, Global};
 use wire::address::Expected;
 
 impl Report {
@@ -27,7 +26,7 @@ impl Report {
     }
 
     // Reports one record. An error is one of memory: the record is counted, and nothing is said of the text.
-    pub fn add(&mut self, datagram: &[u8]) -> fmt::Result
+    pub fn add(&mut self, datagram: &[u8]) -> Result<(), AllocError>
         ensures expected { self.new.expected ≡ self.old.expected }
         ensures counted { self.new.totals ≡ added self.old.totals (line_of self.old.expected datagram.now) }
         ensures reported { OnOk result (view self.new ≡ with_record self.old.expected (view self.old) datagram.now) }
@@ -39,7 +38,7 @@ impl Report {
     }
 
     // Reports the whole records at the front of `bytes`, and says how many bytes they take.
-    pub fn add_records(&mut self, bytes: &[u8]) -> Result<usize, fmt::Error>
+    pub fn add_records(&mut self, bytes: &[u8]) -> Result<usize, AllocError>
         ensures expected { self.new.expected ≡ self.old.expected }
         ensures reported { IfOk result (λ n. Reports self.old.expected (view self.old) (view self.new) bytes.now n) }
     {
@@ -51,7 +50,7 @@ impl Report {
     }
 
     // Reports what is left at the capture's end, a record that was cut or nothing, and the counts.
-    pub fn finish(&mut self, rest: &[u8]) -> fmt::Result
+    pub fn finish(&mut self, rest: &[u8]) -> Result<(), AllocError>
         ensures reported { OnOk result (view self.new ≡ with_totals (with_cut self.old.expected (view self.old) (cut_record rest.now))) }
         ensures counted { OnOk result (EndsWithCounts self.old.expected rest.now (view self.old).totals (view self.new).totals) }
     {
@@ -60,7 +59,7 @@ impl Report {
     }
 
     // Reports a record that was cut, if there is one.
-    fn add_cut(&mut self, rest: &[u8]) -> fmt::Result
+    fn add_cut(&mut self, rest: &[u8]) -> Result<(), AllocError>
         ensures { OnOk result (view self.new ≡ with_cut self.old.expected (view self.old) (cut_record rest.now)) }
     {
         match cut_record(rest) {
@@ -70,7 +69,7 @@ impl Report {
     }
 
     // Reports the counts.
-    fn add_totals(&mut self) -> fmt::Result
+    fn add_totals(&mut self) -> Result<(), AllocError>
         ensures { OnOk result (view self.new ≡ with_totals (view self.old)) }
     {
         let totals = self.totals;

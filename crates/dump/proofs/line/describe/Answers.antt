@@ -5,8 +5,8 @@ use Rattle.dump.specs.declared.line.Line.TheVariants.{Messages}
 use Rattle.dump.proofs.LineLaws.{behind_header, messages_line}
 use Rattle.dump.proofs.line.describe.Goals as goal
 
-pub overflow-sub-result-in-Messages : goal.overflow-sub-result-in-Messages
-overflow-sub-result-in-Messages c =
+pub overflow_sub-result-in-Messages : goal.overflow_sub-result-in-Messages
+overflow_sub-result-in-Messages c =
     omega (arith, behind_header c.args.expected.now c.args.datagram.now (plain c.in-Ok.segment) c.in-Ok.ensures.law)
 
 pub returns-in-Messages : goal.returns-in-Messages

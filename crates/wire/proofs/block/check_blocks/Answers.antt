@@ -4,18 +4,18 @@ use Rattle.wire.specs.Blocks.{checked_blocks}
 use Rattle.wire.proofs.Blocks.{checked_err, checked_more, block_and_rest}
 use Rattle.wire.proofs.block.check_blocks.Goals as goal
 
-pub returns-in-err-body : goal.returns-in-err-body
-returns-in-err-body c =
-    let p = err_from_is_err_and c.from-residual.result c.from-residual.ensures.1 in
-    let e = checked_err (c.args.count - c.loop.counter) c.loop.place c.loop.rest.now c.in-err-body.field-0.0 (omega arith) c.in-err-body.ensures in
+pub returns-in_err-body : goal.returns-in_err-body
+returns-in_err-body c =
+    let p = err_from_is_err_and c.from_residual.result c.from_residual.ensures.1 in
+    let e = checked_err (c.args.count - c.loop.counter) c.loop.place c.loop.rest.now c.in_err-body.field-0.0 (omega arith) c.in_err-body.ensures in
     rw (p.1, p.2) (e ∙ sym c.loop.invariant.1)
 
 pub loop-preserved : goal.loop-preserved
 loop-preserved c =
     let bs = c.loop.rest.now in
-    let body = c.in-ok-body.body.now in
-    let rest = c.in-ok-body.after.now in
-    let h = c.in-ok-body.ensures in
+    let body = c.in_ok-body.body.now in
+    let rest = c.in_ok-body.after.now in
+    let h = c.in_ok-body.ensures in
     let l = block_and_rest c.loop.place bs body rest h in
     let n = c.args.count - c.loop.counter in
     let n_is : n - 1 ≡ c.args.count - (c.loop.counter + 1) = omega arith in

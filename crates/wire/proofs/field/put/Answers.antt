@@ -6,5 +6,5 @@ pub returns : goal.returns
 returns c =
     let n = length c.args.bytes.now in
     let k : (c.args.at + n) - c.args.at ≡ n = omega arith in
-    overwritten_from_part c.args.out.now c.copy-from-slice.new.self c.args.bytes.now c.args.at ((c.args.at + n) - c.args.at)
-    c.copy-from-slice.ensures.after k
+    overwritten_from_part c.args.out.now c.copy_from_slice.new.self c.args.bytes.now c.args.at ((c.args.at + n) - c.args.at)
+    c.copy_from_slice.ensures.after k

@@ -4,5 +4,5 @@ use Rattle.capture.proofs.intake.Intake.discard.Goals as goal
 pub returns : goal.returns
 returns c =
     let i = c.args.self.now in
-    discarded i.memory c.as-mut-slice.result.now c.copy-within.new.self i.held c.as-mut-slice.ensures.value c.copy-within.ensures.len i.within
-    c.args.n c.min-n.result c.min-n.ensures c.copy-within.ensures.after
+    discarded i.memory c.as_mut_slice.result.now c.copy_within.new.self i.held c.as_mut_slice.ensures.value c.copy_within.ensures.len i.within
+    c.args.n c.min-n.result c.min-n.ensures c.copy_within.ensures.after

@@ -5,8 +5,8 @@ use Rattle.std.proofs.iter.Next.{firm}
 
 pub returns : goal.returns
 returns c =
-    let e = sym c.in-ok-record.ensures in
+    let e = sym c.in_ok-record.ensures in
     record {
       steps = e;
-      goes = firm ((tt, tt, shorter c.args.self.now.rest.now c.in-ok-record.record.now c.in-ok-record.rest.now e)) (λ h. search rules);
+      goes = firm ((tt, tt, shorter c.args.self.now.rest.now c.in_ok-record.record.now c.in_ok-record.rest.now e)) (λ h. search rules);
     }

@@ -11,7 +11,7 @@ loop-record-preserved c =
     let v = c.loop-record.self in (
       c.add.ensures.expected ∙ c.loop-record.invariant.0,
       one_record e (view c.args.self.now) (view v) (view c.add.new.self) c.args.bytes.now (bytes_left c.loop-record.records) (bytes_left c.next.new.self) r
-          c.loop-record.invariant.1 c.in-Some.ensures.steps (c.in-ok-add.ensures.reported ∙ ap (λ x. with_record x (view v) r) c.loop-record.invariant.0),
+          c.loop-record.invariant.1 c.in-Some.ensures.steps (c.in_ok-add.ensures.reported ∙ ap (λ x. with_record x (view v) r) c.loop-record.invariant.0),
     )
 
 pub returns : goal.returns
@@ -20,7 +20,7 @@ returns c =
     let p = view c.args.self.now in
     let q = view c.loop-record.self in
     let bs = c.args.bytes.now in
-    let none = c.in-default.ensures.steps in
+    let none = c.in_default.ensures.steps in
     let left : length c.rest.result.now ≡ length (bytes_left c.loop-record.records) = ap length c.rest.ensures ∙ ap (λ x. length (bytes_left x)) none.1 in
     record {
       expected = c.loop-record.invariant.0;

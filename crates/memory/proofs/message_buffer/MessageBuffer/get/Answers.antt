@@ -1,4 +1,4 @@
-use Rattle.std.proofs.Common.{◌≡◌, ℕ, ◌-◌, ◌<◌, ◌≤◌, List, [], length, take, drop, Some, sym, ap, ◌∙◌, arith, rules}
+use Rattle.std.proofs.Common.{ℕ, ◌-◌, ◌<◌, ◌≤◌, List, length, take, drop, Some, sym, ap, ◌∙◌, arith, rules}
 use Rattle.std.proofs.lemmas.Bool.{cond-true, cond-false, lt-ltb, le-ltb}
 use Rattle.memory.specs.MessageBuffers.{buffered}
 use Rattle.memory.proofs.MessageBuffers.{count_is, stands}
@@ -12,19 +12,19 @@ returns-then-index-len c =
     let none : length (buffered c.args.self.now) ≤ c.args.index = omega arith in
     sym (cond-false _ _ _ (le-ltb _ _ none))
 
-pub slice-bounds-result-count : goal.slice-bounds-result-count
-slice-bounds-result-count c =
+pub slice_bounds-result-count : goal.slice_bounds-result-count
+slice_bounds-result-count c =
     let len = c.len.ensures in
     let below = c.if-index-len.false in
     (stands c.args.self.now c.args.index c.start-start.result c.index.result.now (omega arith) c.start-start.ensures c.index.ensures).ordered
 
-pub slice-bounds-result-start : goal.slice-bounds-result-start
-slice-bounds-result-start c =
-    let o = slice-bounds-result-count c in
+pub slice_bounds-result-start : goal.slice_bounds-result-start
+slice_bounds-result-start c =
+    let o = slice_bounds-result-count c in
     search rules
 
-pub slice-bounds-result-end : goal.slice-bounds-result-end
-slice-bounds-result-end c =
+pub slice_bounds-result-end : goal.slice_bounds-result-end
+slice_bounds-result-end c =
     let len = c.len.ensures in
     let below = c.if-index-len.false in
     let s = stands c.args.self.now c.args.index c.start-start.result c.index.result.now (omega arith) c.start-start.ensures c.index.ensures in
@@ -38,5 +38,5 @@ returns c =
     let below = c.if-index-len.false in
     let s = stands b c.args.index c.start-start.result c.index.result.now (omega arith) c.start-start.ensures c.index.ensures in
     let one : c.args.index < length (buffered b) = omega arith in
-    ap (λ (x : List ℕ). Some (take (c.index.result.now - c.start-start.result) (drop c.start-start.result x))) c.as-slice.ensures.value
+    ap (λ (x : List ℕ). Some (take (c.index.result.now - c.start-start.result) (drop c.start-start.result x))) c.as_slice.ensures.value
     ∙ (ap Some s.is ∙ sym (cond-true _ _ _ (lt-ltb _ _ one)))

@@ -1,4 +1,4 @@
-use Rattle.std.proofs.Common.{◌≡◌, ℕ, suc, ◌-◌, ◌≤◌, sym, ◌∙◌, arith}
+use Rattle.std.proofs.Common.{◌-◌, sym, ◌∙◌, arith}
 use Rattle.memory.proofs.MessageBuffers.{end_is, past_is}
 use Rattle.memory.proofs.message_buffer.MessageBuffer.start.Goals as goal
 

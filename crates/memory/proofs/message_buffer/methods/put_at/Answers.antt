@@ -1,4 +1,4 @@
-use Rattle.std.proofs.Common.{◌≡◌, ℕ, ◌+◌, ◌-◌, length, take, drop, sym, ap, ◌∙◌, arith, rules}
+use Rattle.std.proofs.Common.{◌≡◌, ◌+◌, ◌-◌, length, take, drop, sym, ap, ◌∙◌, arith, rules}
 use borrow.Rule.Slice.PartMut.{put_mid}
 use Rattle.std.proofs.lemmas.List.{places}
 use Rattle.std.proofs.lemmas.Slice.{take-put_mid_below, between-put_mid}
@@ -9,8 +9,8 @@ returns c =
     let at = c.args.at in
     let bytes = c.args.bytes.now in
     let body = c.args.body.now in
-    let copied = c.copy-from-slice.new.self in
-    let same : copied ≡ body = c.copy-from-slice.ensures.after in
+    let copied = c.copy_from_slice.new.self in
+    let same : copied ≡ body = c.copy_from_slice.ensures.after in
     let room = c.requires in
     let k : at + length body - at ≡ length body = omega arith in
     let size : length copied ≡ at + length body - at = ap length same ∙ sym k in

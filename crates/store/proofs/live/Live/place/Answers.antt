@@ -5,16 +5,16 @@ use Rattle.store.proofs.Touching.{span_part}
 use Rattle.wire.proofs.Writing.{long_span}
 use Rattle.store.proofs.live.Live.place.Goals as goal
 
-pub overflow-mul-result : goal.overflow-mul-result
-overflow-mul-result c =
+pub overflow_mul-result : goal.overflow_mul-result
+overflow_mul-result c =
     let ms = live_messages c.args.self.now in
     let low = c.requires in
     let two = long_span ms in
     let fit = c.args.self.now.placeable in
     record { fits = omega arith }
 
-pub overflow-add-result : goal.overflow-add-result
-overflow-add-result c =
+pub overflow_add-result : goal.overflow_add-result
+overflow_add-result c =
     let ms = live_messages c.args.self.now in
     let sum = place_is ms c.args.index c.start.result c.requires c.start.ensures in
     let part = span_part c.args.index ms in

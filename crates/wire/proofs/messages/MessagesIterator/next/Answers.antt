@@ -3,11 +3,11 @@ use Rattle.wire.proofs.Cursor.{unread_more, unread_none}
 use Rattle.wire.proofs.messages.MessagesIterator.next.Goals as goal
 use Rattle.std.proofs.iter.Next.{firm}
 
-pub returns-in-default : goal.returns-in-default
-returns-in-default c =
+pub returns-in_default : goal.returns-in_default
+returns-in_default c =
     let s = c.args.self.now in
     record {
-      steps = (unread_none s.left s.number s.place s.rest.now c.in-default.field-0 (sym c.in-default.ensures), refl);
+      steps = (unread_none s.left s.number s.place s.rest.now c.in_default.field-0 (sym c.in_default.ensures), refl);
       goes = firm (tt) (λ h. search rules);
     }
 

@@ -8,8 +8,8 @@ use Rattle.wire.proofs.request.writing.put_ranges.Goals as goal
 pub loop-range-preserved : goal.loop-range-preserved
 loop-range-preserved c = (
   omega arith,
-  ranges_written c.args.ranges.now c.loop-range.range-index _ c.args.out.now c.loop-range.out c.put-range.new.out c.loop-range.at
-      (omega arith) (omega arith) c.loop-range.invariant.0 c.loop-range.invariant.1 c.put-range.ensures,
+  ranges_written c.args.ranges.now c.loop-range.range-index _ c.args.out.now c.loop-range.out c.put_range.new.out c.loop-range.at
+      (omega arith) (omega arith) c.loop-range.invariant.0 c.loop-range.invariant.1 c.put_range.ensures,
 )
 
 pub returns : goal.returns

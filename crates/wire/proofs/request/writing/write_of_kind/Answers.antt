@@ -5,12 +5,12 @@ use Rattle.wire.proofs.Buffers.{past, short, wrote}
 use Rattle.wire.proofs.RequestWrote.{wrote_back, wrote_as_read, all_written}
 use Rattle.wire.proofs.request.writing.write_of_kind.Goals as goal
 
-pub returns-then-not-within-limits : goal.returns-then-not-within-limits
-returns-then-not-within-limits c =
+pub returns-then-not-within_limits : goal.returns-then-not-within_limits
+returns-then-not-within_limits c =
     let k = c.args.kind in
     let rs = c.args.ranges.now in
     let out = c.args.out.now in
-    let v = ap Err c.at.ensures ∙ past (ranges_past_limits k rs) (16 + 16 * length rs) out (not-false _ (sym c.if-not-within-limits.ensures)) in
+    let v = ap Err c.at.ensures ∙ past (ranges_past_limits k rs) (16 + 16 * length rs) out (not-false _ (sym c.if-not-within_limits.ensures)) in
     record { value = v; after = refl {a = out}; reads_back = tt; as_read = wrote_as_read k c.args.address.now rs out out (Err c.at.result) v refl }
 
 pub returns-then-out-end : goal.returns-then-out-end
@@ -18,7 +18,7 @@ returns-then-out-end c =
     let k = c.args.kind in
     let rs = c.args.ranges.now in
     let out = c.args.out.now in
-    let v = ap Err c.at-then-out-end.ensures ∙ short (ranges_past_limits k rs) (16 + 16 * length rs) out (not-true _ (sym c.if-not-within-limits.ensures)) (omega arith) in
+    let v = ap Err c.at-then-out-end.ensures ∙ short (ranges_past_limits k rs) (16 + 16 * length rs) out (not-true _ (sym c.if-not-within_limits.ensures)) (omega arith) in
     record { value = v; after = refl {a = out}; reads_back = tt; as_read = wrote_as_read k c.args.address.now rs out out (Err c.at-then-out-end.result) v refl }
 
 pub returns : goal.returns
@@ -27,12 +27,12 @@ returns c =
     let a = c.args.address.now in
     let rs = c.args.ranges.now in
     let out = c.args.out.now in
-    let left = c.put-ranges.new.out in
-    let v : Ok (16 + 16 * length rs) ≡ write_request k rs out = wrote (ranges_past_limits k rs) (16 + 16 * length rs) out (not-true _ (sym c.if-not-within-limits.ensures)) (omega arith) in
-    let w = all_written k a rs out c.put-request-header.new.out left c.put-request-header.ensures.after c.put-ranges.ensures in
+    let left = c.put_ranges.new.out in
+    let v : Ok (16 + 16 * length rs) ≡ write_request k rs out = wrote (ranges_past_limits k rs) (16 + 16 * length rs) out (not-true _ (sym c.if-not-within_limits.ensures)) (omega arith) in
+    let w = all_written k a rs out c.put_request_header.new.out left c.put_request_header.ensures.after c.put_ranges.ensures in
     record {
       value = v;
       after = w;
-      reads_back = wrote_back k a rs out left (Ok (16 + 16 * length rs)) v w c.put-request-header.ensures.fits;
+      reads_back = wrote_back k a rs out left (Ok (16 + 16 * length rs)) v w c.put_request_header.ensures.fits;
       as_read = wrote_as_read k a rs out left (Ok (16 + 16 * length rs)) v w;
     }

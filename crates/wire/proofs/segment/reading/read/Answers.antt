@@ -3,46 +3,46 @@ use Rattle.std.proofs.lemmas.Result.{err_from_is_err_and}
 use Rattle.wire.proofs.Reading.{refused, by_size, by_address, by_ranges, by_blocks, accepted}
 use Rattle.wire.proofs.segment.reading.read.Goals as goal
 
-pub returns-in-err-check-size : goal.returns-in-err-check-size
-returns-in-err-check-size c =
+pub returns-in_err-check_size : goal.returns-in_err-check_size
+returns-in_err-check_size c =
     let e = c.args.expected.now in
     let d = c.args.datagram.now in
-    let f = c.in-err-check-size.field-0.0 in
-    let p = err_from_is_err_and c.from-residual.result c.from-residual.ensures.1 in
-    let v = by_size e d f c.in-err-check-size.ensures in
+    let f = c.in_err-check_size.field-0.0 in
+    let p = err_from_is_err_and c.from_residual.result c.from_residual.ensures.1 in
+    let v = by_size e d f c.in_err-check_size.ensures in
     rw (p.1, p.2) (record { value = v; content = tt; law = refused e d f v })
 
-pub returns-in-err-check-address : goal.returns-in-err-check-address
-returns-in-err-check-address c =
+pub returns-in_err-check_address : goal.returns-in_err-check_address
+returns-in_err-check_address c =
     let e = c.args.expected.now in
     let d = c.args.datagram.now in
-    let f = c.in-err-check-address.field-0.0 in
-    let p = err_from_is_err_and c.from-residual-in-err-check-address.result c.from-residual-in-err-check-address.ensures.1 in
-    let v = by_address e d c.in-ok-check-size.ensures f c.in-err-check-address.ensures in
+    let f = c.in_err-check_address.field-0.0 in
+    let p = err_from_is_err_and c.from_residual-in_err-check_address.result c.from_residual-in_err-check_address.ensures.1 in
+    let v = by_address e d c.in_ok-check_size.ensures f c.in_err-check_address.ensures in
     rw (p.1, p.2) (record { value = v; content = tt; law = refused e d f v })
 
-pub returns-in-err-check-ranges : goal.returns-in-err-check-ranges
-returns-in-err-check-ranges c =
+pub returns-in_err-check_ranges : goal.returns-in_err-check_ranges
+returns-in_err-check_ranges c =
     let e = c.args.expected.now in
     let d = c.args.datagram.now in
-    let f = c.in-err-check-ranges.field-0.0 in
-    let p = err_from_is_err_and c.from-residual-in-err-check-ranges.result c.from-residual-in-err-check-ranges.ensures.1 in
-    let v = by_ranges e d c.in-ok-check-size.ensures c.in-ok-check-address.ensures f c.in-err-check-ranges.ensures in
+    let f = c.in_err-check_ranges.field-0.0 in
+    let p = err_from_is_err_and c.from_residual-in_err-check_ranges.result c.from_residual-in_err-check_ranges.ensures.1 in
+    let v = by_ranges e d c.in_ok-check_size.ensures c.in_ok-check_address.ensures f c.in_err-check_ranges.ensures in
     rw (p.1, p.2) (record { value = v; content = tt; law = refused e d f v })
 
-pub returns-in-err-check-blocks : goal.returns-in-err-check-blocks
-returns-in-err-check-blocks c =
+pub returns-in_err-check_blocks : goal.returns-in_err-check_blocks
+returns-in_err-check_blocks c =
     let e = c.args.expected.now in
     let d = c.args.datagram.now in
-    let f = c.in-err-check-blocks.field-0.0 in
-    let p = err_from_is_err_and c.from-residual-in-err-check-blocks.result c.from-residual-in-err-check-blocks.ensures.1 in
-    let v = by_blocks e d c.in-ok-check-size.ensures c.in-ok-check-address.ensures c.in-ok-check-ranges.ensures
-    c.read-header-header.result _ c.read-header-header.ensures (take_rest d 40) f c.in-err-check-blocks.ensures in
+    let f = c.in_err-check_blocks.field-0.0 in
+    let p = err_from_is_err_and c.from_residual-in_err-check_blocks.result c.from_residual-in_err-check_blocks.ensures.1 in
+    let v = by_blocks e d c.in_ok-check_size.ensures c.in_ok-check_address.ensures c.in_ok-check_ranges.ensures
+    c.read_header-header.result _ c.read_header-header.ensures (take_rest d 40) f c.in_err-check_blocks.ensures in
     rw (p.1, p.2) (record { value = v; content = tt; law = refused e d f v })
 
 pub returns : goal.returns
 returns c =
     let d = c.args.datagram.now in
-    let v = accepted c.args.expected.now d c.in-ok-check-size.ensures c.in-ok-check-address.ensures c.in-ok-check-ranges.ensures
-    c.read-header-header.result _ c.read-header-header.ensures (take_rest d 40) _ c.in-ok-check-blocks.ensures c.read-content-content.ensures in
+    let v = accepted c.args.expected.now d c.in_ok-check_size.ensures c.in_ok-check_address.ensures c.in_ok-check_ranges.ensures
+    c.read_header-header.result _ c.read_header-header.ensures (take_rest d 40) _ c.in_ok-check_blocks.ensures c.read_content-content.ensures in
     record { value = v.0; content = v.1; law = v.2 }

@@ -10,8 +10,8 @@ use Rattle.wire.proofs.segment.writing.put_blocks.Goals as goal
 pub loop-index-init : goal.loop-index-init
 loop-index-init g c = (omega arith, sym (take-append-drop 40 c.args.out.now))
 
-pub put-block-at-requires : goal.put-block-at-requires
-put-block-at-requires g c =
+pub put_block-at-requires : goal.put_block-at-requires
+put_block-at-requires g c =
     let ms = g.B.Bodies.messages c.args.bodies.now in
     let i = c.loop-index.index in
     let within : i < length ms = omega (arith, c.count-index-end.ensures) in
@@ -25,9 +25,9 @@ loop-index-preserved g c =
     let i = c.loop-index.index in
     let within : i < length ms = omega (arith, c.count-index-end.ensures) in
     let more = span_more ms i within in (
-      omega (arith, c.put-block-at.ensures.value),
-      blocks_written ms i c.args.out.now c.loop-index.out c.put-block-at.new.out c.loop-index.at within (omega arith)
-          c.loop-index.invariant.0 c.loop-index.invariant.1 c.put-block-at.ensures.after,
+      omega (arith, c.put_block-at.ensures.value),
+      blocks_written ms i c.args.out.now c.loop-index.out c.put_block-at.new.out c.loop-index.at within (omega arith)
+          c.loop-index.invariant.0 c.loop-index.invariant.1 c.put_block-at.ensures.after,
     )
 
 pub returns : goal.returns

@@ -11,9 +11,9 @@ returns c =
     record {
       fits = record { address = record { protocol = search rules; channel = search rules; session = search rules }; time = f };
       after = header_written c.args.out.now c.args.header.now c.args.payload
-          c.put.new.out c.put-u16.new.out c.put-u32.new.out c.put-u32-2.new.out c.put-u16-2.new.out c.put-u16-3.new.out
-          c.put-u64.new.out c.put-u64-2.new.out c.put-u64-3.new.out
-          c.put.ensures c.put-u16.ensures c.put-u32.ensures c.put-u32-2.ensures c.put-u16-2.ensures c.put-u16-3.ensures
-          c.put-u64.ensures c.put-u64-2.ensures
-          (c.put-u64-3.ensures ∙ ap (λ n. overwritten c.put-u64-2.new.out 32 (bytes_of 8 n)) (c.cast-unsigned.ensures ∙ ap (of_z w64) (to_z-of_z w64 t f)));
+          c.put.new.out c.put_u16.new.out c.put_u32.new.out c.put_u32-2.new.out c.put_u16-2.new.out c.put_u16-3.new.out
+          c.put_u64.new.out c.put_u64-2.new.out c.put_u64-3.new.out
+          c.put.ensures c.put_u16.ensures c.put_u32.ensures c.put_u32-2.ensures c.put_u16-2.ensures c.put_u16-3.ensures
+          c.put_u64.ensures c.put_u64-2.ensures
+          (c.put_u64-3.ensures ∙ ap (λ n. overwritten c.put_u64-2.new.out 32 (bytes_of 8 n)) (c.cast_unsigned.ensures ∙ ap (of_z w64) (to_z-of_z w64 t f)));
     }

@@ -11,4 +11,4 @@ returns-then-index-self c =
 pub returns : goal.returns
 returns c =
     let body = slice_at c.args.self.now.now c.args.index _ c.if-index-self.false in
-    record { value = sym (ap length body); after = c.copy-body.ensures ∙ sym (ap (λ m. copied m c.args.out.now) body) }
+    record { value = sym (ap length body); after = c.copy_body.ensures ∙ sym (ap (λ m. copied m c.args.out.now) body) }
