@@ -58,9 +58,10 @@ pub struct Fault {
 }
 
 impl Refusal {
-    // The number by which installers know this refusal.
+    // The number by which installers know this refusal. No other has it.
     pub fn number(self) -> u8
-        ensures { result ≡ (entry_of self).number }
+        ensures value { result ≡ (entry_of self).number }
+        ensures distinct { (r : Refusal) → (entry_of r).number ≡ result → r ≡ self }
     {
         match self {
             Refusal::ShortDatagram => 1,
