@@ -1,5 +1,6 @@
 #!/usr/bin/env python3
-"""Runs target/bin/dump on random captures, sound and damaged, and compares what it prints with the reference.
+"""Runs dump on random captures, sound and damaged, and compares what it prints with the reference.
+First build it, by `rt run < stdin` in crates/dump.
 
 usage: tools/compare_dump.py [ROUNDS [SEED]]
 """
@@ -11,7 +12,7 @@ import sys
 
 from reference import dump, record, write_segment
 
-PROGRAM = pathlib.Path(__file__).parent.parent / "target" / "bin" / "dump"
+PROGRAM = pathlib.Path(__file__).parent.parent / "crates" / "dump" / "out" / "dump"
 Z = 2**63 - 1
 
 
