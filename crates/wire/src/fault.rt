@@ -1,5 +1,7 @@
 // Why something was refused, by which layer, and at which byte.
-ghost use Rattle.std.specs.Prelude.{◌≡◌, Some};
+ghost use Rattle.std.specs.Prelude.{◌≡◌, ◌==◌, ◌↔◌, IsTrue, Some};
+ghost use Rattle.std.proofs.Common.{rules};
+ghost use Rattle.std.specs.Cmp.Rules.{comparing};
 ghost use Rattle.wire.specs.Faults.{entry_of, fault, layer_text, fault_text};
 
 use std::fmt;
@@ -17,7 +19,7 @@ pub enum Layer {
 }
 
 // What is wrong. `docs/REFUSALS.md` has the table, with the place of each.
-#[derive(Clone, Copy, Debug, PartialEq, Eq)]
+#[derive(Clone, Copy, Debug)]
 pub enum Refusal {
     ShortDatagram,
     LongDatagram,
@@ -140,6 +142,24 @@ impl Refusal {
             place,
         }
     }
+}
+
+// Two refusals are the same exactly when their numbers are.
+impl PartialEq for Refusal {
+    ghost eq = { λ x y. (entry_of x).number == (entry_of y).number };
+
+    ghost laws = { Prim.search (comparing, rules) };
+
+    fn eq(&self, other: &Refusal) -> bool
+        ensures numbers { result ≡ ((entry_of self.now).number == (entry_of other.now).number) }
+        ensures decides { IsTrue result ↔ (self.now ≡ other.now) }
+    {
+        self.number() == other.number()
+    }
+}
+
+impl Eq for Refusal {
+    ghost laws = { Prim.search (comparing, rules) };
 }
 
 // A layer's name, in lower case.

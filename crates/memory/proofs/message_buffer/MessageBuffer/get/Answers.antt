@@ -16,7 +16,9 @@ pub slice_bounds-result-count : goal.slice_bounds-result-count
 slice_bounds-result-count c =
     let len = c.len.ensures in
     let below = c.if-index-len.false in
-    (stands c.args.self.now c.args.index c.start-start.result c.index.result.now (omega arith) c.start-start.ensures c.index.ensures).ordered
+    let s = stands c.args.self.now c.args.index c.start-start.result c.index.result.now (omega arith) c.start-start.ensures c.index.ensures in
+    let ordered = s.ordered in
+    omega arith
 
 pub slice_bounds-result-start : goal.slice_bounds-result-start
 slice_bounds-result-start c =
