@@ -1,7 +1,5 @@
 // Why something was refused, by which layer, and at which byte.
 ghost use Rattle.std.specs.Prelude.{◌≡◌, ◌==◌, ◌↔◌, IsTrue, Some};
-ghost use Rattle.std.proofs.Common.{rules};
-ghost use Rattle.std.specs.Cmp.Rules.{comparing};
 ghost use Rattle.wire.specs.Faults.{entry_of, fault, layer_text, fault_text};
 
 use std::fmt;
@@ -18,38 +16,38 @@ pub enum Layer {
     Sink,
 }
 
-// What is wrong. `docs/REFUSALS.md` has the table, with the place of each.
-#[derive(Clone, Copy, Debug)]
+// What is wrong, with the number by which installers know it. `docs/REFUSALS.md` has the table, with the place of each.
+#[derive(Clone, Copy, Debug, PartialEq, Eq)]
 pub enum Refusal {
-    ShortDatagram,
-    LongDatagram,
-    WrongVersion,
-    WrongProtocol,
-    WrongChannel,
-    WrongSession,
-    WrongLength,
-    OutOfRange,
-    BlocksDisagree,
-    LongBlock,
-    OffsetMismatch,
-    ShortRequest,
-    WrongRequestVersion,
-    WrongRequestType,
-    WrongRequestProtocol,
-    WrongRequestChannel,
-    WrongRequestSession,
-    WrongRangeCount,
-    WrongRequestLength,
-    InvalidRange,
-    RangesNotAscending,
-    NoRoomForRequest,
-    SettingOutOfRange,
-    ShortBuffer,
-    NotWholeBlocks,
-    LongMessage,
-    StoreFull,
-    NothingMissing,
-    SinkRefused,
+    ShortDatagram = 1,
+    LongDatagram = 2,
+    WrongVersion = 3,
+    WrongProtocol = 4,
+    WrongChannel = 5,
+    WrongSession = 6,
+    WrongLength = 7,
+    OutOfRange = 8,
+    BlocksDisagree = 9,
+    LongBlock = 10,
+    OffsetMismatch = 11,
+    ShortRequest = 12,
+    WrongRequestVersion = 13,
+    WrongRequestType = 14,
+    WrongRequestProtocol = 15,
+    WrongRequestChannel = 16,
+    WrongRequestSession = 17,
+    WrongRangeCount = 18,
+    WrongRequestLength = 19,
+    InvalidRange = 20,
+    RangesNotAscending = 21,
+    NoRoomForRequest = 22,
+    SettingOutOfRange = 23,
+    ShortBuffer = 24,
+    NotWholeBlocks = 25,
+    LongMessage = 26,
+    StoreFull = 27,
+    NothingMissing = 28,
+    SinkRefused = 29,
 }
 
 // A refusal, and the byte at which it was found.
@@ -65,37 +63,7 @@ impl Refusal {
         ensures value { result ≡ (entry_of self).number }
         ensures distinct { (r : Refusal) → (entry_of r).number ≡ result → r ≡ self }
     {
-        match self {
-            Refusal::ShortDatagram => 1,
-            Refusal::LongDatagram => 2,
-            Refusal::WrongVersion => 3,
-            Refusal::WrongProtocol => 4,
-            Refusal::WrongChannel => 5,
-            Refusal::WrongSession => 6,
-            Refusal::WrongLength => 7,
-            Refusal::OutOfRange => 8,
-            Refusal::BlocksDisagree => 9,
-            Refusal::LongBlock => 10,
-            Refusal::OffsetMismatch => 11,
-            Refusal::ShortRequest => 12,
-            Refusal::WrongRequestVersion => 13,
-            Refusal::WrongRequestType => 14,
-            Refusal::WrongRequestProtocol => 15,
-            Refusal::WrongRequestChannel => 16,
-            Refusal::WrongRequestSession => 17,
-            Refusal::WrongRangeCount => 18,
-            Refusal::WrongRequestLength => 19,
-            Refusal::InvalidRange => 20,
-            Refusal::RangesNotAscending => 21,
-            Refusal::NoRoomForRequest => 22,
-            Refusal::SettingOutOfRange => 23,
-            Refusal::ShortBuffer => 24,
-            Refusal::NotWholeBlocks => 25,
-            Refusal::LongMessage => 26,
-            Refusal::StoreFull => 27,
-            Refusal::NothingMissing => 28,
-            Refusal::SinkRefused => 29,
-        }
+        self as u8
     }
 
     // The layer that refuses so.
@@ -144,23 +112,11 @@ impl Refusal {
     }
 }
 
-// Two refusals are the same exactly when their numbers are.
-impl PartialEq for Refusal {
-    ghost eq = { λ x y. (entry_of x).number == (entry_of y).number };
-
-    ghost laws = { Prim.search (comparing, rules) };
-
-    fn eq(&self, other: &Refusal) -> bool
-        ensures numbers { result ≡ ((entry_of self.now).number == (entry_of other.now).number) }
-        ensures decides { IsTrue result ↔ (self.now ≡ other.now) }
-    {
-        self.number() == other.number()
-    }
-}
-
-impl Eq for Refusal {
-    ghost laws = { Prim.search (comparing, rules) };
-}
+// Proves what `==` says of refusals; it does nothing.
+pub fn refusal_laws()
+    ensures numbers { (x y : Refusal) → ⟦<Refusal as PartialEq>⟧.eq x y ≡ ((entry_of x).number == (entry_of y).number) }
+    ensures decides { (x y : Refusal) → IsTrue (⟦<Refusal as PartialEq>⟧.eq x y) ↔ (x ≡ y) }
+{}
 
 // A layer's name, in lower case.
 impl fmt::Display for Layer {
@@ -185,9 +141,12 @@ impl fmt::Display for Fault {
     ghost output = { λ f. Some (fault_text f) };
 
     fn fmt<W: fmt::Write>(&self, f: &mut fmt::Formatter<W>) -> fmt::Result {
-        let number = self.refusal.number();
-        let layer = self.refusal.layer();
-        let place = self.place;
-        write!(f, "number {number}, layer {layer}, place {place}")
+        write!(
+            f,
+            "number {}, layer {}, place {}",
+            self.refusal.number(),
+            self.refusal.layer(),
+            self.place
+        )
     }
 }
