@@ -1,9 +1,9 @@
 -- Laws of fields: what is written reads back, what is read writes the same bytes, and writes one behind the other.
-use Rattle.std.proofs.Common.{◌≡◌, ℕ, zero, suc, ◌+◌, ◌*◌, ◌/◌, ◌%◌, ◌^◌, ◌<◌, ◌≤◌, List, [], ◌∷◌, ◌++◌, length, take, drop, sym, refl, ap, ◌∙◌, subst, append_assoc, pow-suc, arith, length-append, length-drop}
+use Rattle.std.proofs.Common.{◌≡◌, ℕ, zero, suc, ◌+◌, ◌-◌, ◌*◌, ◌/◌, ◌%◌, ◌^◌, ◌<◌, ◌≤◌, List, [], ◌∷◌, ◌++◌, length, take, drop, sym, refl, ap, ◌∙◌, subst, append_assoc, pow-suc, arith, length-append, length-drop}
 use lib.Seq.{paste}
 use borrow.Rule.Slice.PartMut.{put_mid}
 use Rattle.std.proofs.lemmas.List.Edits.{paste_all, paste-paste}
-use Rattle.std.proofs.lemmas.List.{drop-drop, drop_at, take_at, take-take, take-append-le, take-append-drop, length-take-le}
+use Rattle.std.proofs.lemmas.List.{drop-drop, drop-take, drop_at, take_at, take-take, take-append-le, take-append-drop, length-take-le}
 use Rattle.wire.specs.Fields.{le, bytes_of, field, overwritten, Octets}
 
 pub length-bytes_of : (width n : ℕ) → length (bytes_of width n) ≡ width
@@ -84,6 +84,12 @@ overwritten_before d xs bs at k e h =
 -- what was written at the front
 pub front_of_overwritten : (d bs : List ℕ) → take (length bs) (overwritten d 0 bs) ≡ bs
 front_of_overwritten d bs = take_at bs (drop (0 + length bs) d) (length bs) refl
+
+-- a field that lies in the front of some bytes
+pub field-take : (d : List ℕ) (n at width : ℕ) → at + width ≤ n → field (take n d) at width ≡ field d at width
+field-take d n at width h =
+    let sum : n ≡ at + (n - at) = omega arith in
+    ap le (ap (λ k. take width (drop at (take k d))) sum ∙ (ap (take width) (drop-take at (n - at) d) ∙ take-take width (n - at) (drop at d) (omega arith)))
 
 -- a field's bytes
 module _ (d : List ℕ) (at width : ℕ) (o : Octets d) (h : at + width ≤ length d) where

@@ -2,6 +2,7 @@ pub mod Blocks
 pub mod Buffers
 pub mod Cursor
 pub mod Fields
+pub mod Headers
 pub mod Outcomes
 pub mod Reading
 pub mod ReadingLaw

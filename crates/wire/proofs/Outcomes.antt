@@ -27,21 +27,21 @@ abbrev pub passed : Checked
 passed = Ok tt
 
 -- checks that found nothing are passed over
-pub none_found : {X : Type 0} (xs ys : List Check) (r : Result X Fault) → passed ≡ first_fault xs passed → first_fault (xs ++ ys) r ≡ first_fault ys r
-none_found [] ys r = λ _. refl
-none_found (c ∷ xs) ys r =
-    cond_both c.fails (Err c.gives) (first_fault xs passed)
-    (λ (a : Checked). passed ≡ a → first_fault (c ∷ xs ++ ys) r ≡ first_fault ys r) (λ t e. ok_not_err tt c.gives e)
-    (λ t e. cond-false _ _ _ t ∙ none_found xs ys r e)
+pub none_found : {X Y : Type 0} (x y : Y) (xs ys : List Check) (r : Result X Fault) → Ok x ≡ first_fault xs (Ok y) → first_fault (xs ++ ys) r ≡ first_fault ys r
+none_found x y [] ys r = λ _. refl
+none_found {Y = Y} x y (c ∷ xs) ys r =
+    cond_both c.fails (Err c.gives) (first_fault xs (Ok y))
+    (λ (a : Result Y Fault). Ok x ≡ a → first_fault (c ∷ xs ++ ys) r ≡ first_fault ys r) (λ t e. ok_not_err x c.gives e)
+    (λ t e. cond-false _ _ _ t ∙ none_found x y xs ys r e)
 
 -- the fault of the first checks is the fault of all
-pub fault_found : {X : Type 0} (xs ys : List Check) (r : Result X Fault) (f : Fault) → Err f ≡ first_fault xs passed → Err f ≡ first_fault (xs ++ ys) r
-fault_found [] ys r f = λ e. ok_not_err tt f (sym e)
-fault_found (c ∷ xs) ys r f =
-    cond_both c.fails (Err c.gives) (first_fault xs passed)
-    (λ (a : Checked). Err f ≡ a → Err f ≡ first_fault (c ∷ xs ++ ys) r)
+pub fault_found : {X Y : Type 0} (y : Y) (xs ys : List Check) (r : Result X Fault) (f : Fault) → Err f ≡ first_fault xs (Ok y) → Err f ≡ first_fault (xs ++ ys) r
+fault_found y [] ys r f = λ e. ok_not_err y f (sym e)
+fault_found {Y = Y} y (c ∷ xs) ys r f =
+    cond_both c.fails (Err c.gives) (first_fault xs (Ok y))
+    (λ (a : Result Y Fault). Err f ≡ a → Err f ≡ first_fault (c ∷ xs ++ ys) r)
     (λ t e. let q : f ≡ c.gives = cc in ap Err q ∙ sym (cond-true _ _ _ t))
-    (λ t e. fault_found xs ys r f e ∙ sym (cond-false _ _ _ t))
+    (λ t e. fault_found y xs ys r f e ∙ sym (cond-false _ _ _ t))
 
 abbrev pub number_of : Check → ℕ
 number_of c = (entry_of c.gives.refusal).number

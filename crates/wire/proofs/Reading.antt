@@ -10,13 +10,14 @@ use Rattle.wire.specs.Blocks.{blocks, checked_blocks}
 use Rattle.wire.specs.Cursor.{Placed, placed_at, numbered, wrap, unread_from}
 use Rattle.wire.specs.Faults.{fault}
 use Rattle.wire.specs.Fields.{field}
-use Rattle.wire.specs.Outcomes.{map_ok, first_fault}
+use Rattle.wire.specs.Outcomes.{map_ok, Check, first_fault}
 use Rattle.wire.specs.ReadingLaw.{ByLaw, Accepted}
-use Rattle.wire.specs.Segments.{Plain, size_checks, address_checks, range_checks, header_of, segment_of, read_segment}
+use Rattle.wire.specs.Segments.{Plain, size_checks, split_header, address_checks, range_checks, header_of, segment_of, read_segment}
 use Rattle.wire.specs.Views.{Handed, messages, carried, messages_of, body_of, content_unread}
-use Rattle.wire.proofs.Blocks.{first_block_cases, first_block_good, after}
+use Rattle.wire.proofs.Blocks.{Pair, first_block_cases, first_block_good, after}
 use Rattle.wire.proofs.Cursor.{unread_more}
-use Rattle.wire.proofs.Outcomes.{passed, ok_not_err, map_ok_from, none_found, fault_found}
+use Rattle.wire.proofs.Headers.{address_checks-take, range_checks-take, header_of-take}
+use Rattle.wire.proofs.Outcomes.{passed, ok_not_err, map_ok_from, none_found, fault_found, past_checks}
 use Rattle.wire.proofs.ReadingLaw.{reads_by_law}
 
 abbrev Bodies : Type 0
@@ -72,40 +73,60 @@ module _ (e : Expected) (d : List ℕ) where
   pub refused : (f : Fault) → Err f ≡ read_segment e d → ByLaw e d (Err f)
   refused f v = subst (ByLaw e d) (sym v) (reads_by_law e d)
 
-  pub by_size : (f : Fault) → Err f ≡ first_fault (size_checks d) passed → Err f ≡ read_segment e d
-  by_size f h = fault_found (size_checks d) (address_checks e d ++ range_checks d) _ f h
+  pub by_size : (f : Fault) → Err f ≡ split_header d → Err f ≡ read_segment e d
+  by_size f h = fault_found _ (size_checks d) (address_checks e d ++ range_checks d (length d)) _ f h
 
-  module _ (s : passed ≡ first_fault (size_checks d) passed) where
-    pub by_address : (f : Fault) → Err f ≡ first_fault (address_checks e d) passed → Err f ≡ read_segment e d
-    by_address f h = fault_found (address_checks e d) (range_checks d) _ f h ∙ sym (none_found (size_checks d) (address_checks e d ++ range_checks d) _ s)
+  module _ (head rest : List ℕ) (s : Ok (head, rest) ≡ split_header d) where
+    parts : ◌≡◌ {A = Pair} (head, rest) (take 40 d, drop 40 d)
+    parts = let p = (past_checks (size_checks d) (Ok (take 40 d, drop 40 d)) (head, rest) (sym s)).1 in cc
 
-    module _ (a : passed ≡ first_fault (address_checks e d) passed) where
+    head_is : head ≡ take 40 d
+    head_is = ap (λ (p : Pair). p.0) parts
+
+    pub rest_is : rest ≡ drop 40 d
+    rest_is = ap (λ (p : Pair). p.1) parts
+
+    address_is : first_fault (address_checks e head) passed ≡ first_fault (address_checks e d) passed
+    address_is = ap (λ (cs : List Check). first_fault cs passed) (ap (address_checks e) head_is ∙ address_checks-take d e)
+
+    range_is : first_fault (range_checks head (length d)) passed ≡ first_fault (range_checks d (length d)) passed
+    range_is = ap (λ (cs : List Check). first_fault cs passed) (ap (λ h. range_checks h (length d)) head_is ∙ range_checks-take d (length d))
+
+    pub header_is : header_of head ≡ header_of d
+    header_is = ap header_of head_is ∙ header_of-take d
+
+    pub by_address : (f : Fault) → Err f ≡ first_fault (address_checks e head) passed → Err f ≡ read_segment e d
+    by_address f h =
+        fault_found _ (address_checks e d) (range_checks d (length d)) _ f (h ∙ address_is)
+        ∙ sym (none_found _ _ (size_checks d) (address_checks e d ++ range_checks d (length d)) _ s)
+
+    module _ (a : passed ≡ first_fault (address_checks e head) passed) where
       abbrev told : Result Plain Fault
       told = map_ok (segment_of d) (blocks (field d 14 2) 40 (drop 40 d))
 
-      header_passed : first_fault (range_checks d) told ≡ read_segment e d
+      header_passed : first_fault (range_checks d (length d)) told ≡ read_segment e d
       header_passed =
-          sym (none_found (size_checks d) (address_checks e d ++ range_checks d) told s
-          ∙ none_found (address_checks e d) (range_checks d) told a)
+          sym (none_found _ _ (size_checks d) (address_checks e d ++ range_checks d (length d)) told s
+          ∙ none_found _ _ (address_checks e d) (range_checks d (length d)) told (a ∙ address_is))
 
-      pub by_ranges : (f : Fault) → Err f ≡ first_fault (range_checks d) passed → Err f ≡ read_segment e d
-      by_ranges f h = fault_found (range_checks d) [] told f h ∙ header_passed
+      pub by_ranges : (f : Fault) → Err f ≡ first_fault (range_checks head (length d)) passed → Err f ≡ read_segment e d
+      by_ranges f h = fault_found _ (range_checks d (length d)) [] told f (h ∙ range_is) ∙ header_passed
 
-      module _ (r : passed ≡ first_fault (range_checks d) passed) where
+      module _ (r : passed ≡ first_fault (range_checks head (length d)) passed) where
         all_passed : told ≡ read_segment e d
-        all_passed = sym (none_found (range_checks d) [] told r) ∙ header_passed
+        all_passed = sym (none_found _ _ (range_checks d (length d)) [] told (r ∙ range_is)) ∙ header_passed
 
         same_fault : (x : Bodies) (f : Fault) → Err f ≡ map_ok {Y = Unit {0}} (λ _. tt) x → Err f ≡ map_ok (segment_of d) x
         same_fault (Ok ms) f h = ok_not_err tt f (sym h)
         same_fault (Err g) f h = let q : f ≡ g = cc in ap Err q
 
-        module _ (h : Header) (S : List ℕ) (is : h ≡ header_of d) (t : S ≡ drop 40 d) where
-          pub by_blocks : (f : Fault) → Err f ≡ checked_blocks h.count 40 S → Err f ≡ read_segment e d
-          by_blocks f b = same_fault (blocks (field d 14 2) 40 (drop 40 d)) f (b ∙ (λ i. checked_blocks (is i).count 40 (t i))) ∙ all_passed
+        module _ (h : Header) (is : h ≡ header_of d) where
+          pub by_blocks : (f : Fault) → Err f ≡ checked_blocks h.count 40 rest → Err f ≡ read_segment e d
+          by_blocks f b = same_fault (blocks (field d 14 2) 40 (drop 40 d)) f (b ∙ (λ i. checked_blocks (is i).count 40 (rest_is i))) ∙ all_passed
 
-          module _ (out : Handed) (b : passed ≡ checked_blocks h.count 40 S) (o : out ≡ content_unread h S) where
+          module _ (out : Handed) (b : passed ≡ checked_blocks h.count 40 rest) (o : out ≡ content_unread h rest) where
             found : (ms : List (List ℕ)) × (blocks (field d 14 2) 40 (drop 40 d) ≡ Ok ms) × (◌≡◌ {A = Unit {0}} tt tt)
-            found = map_ok_from (λ _. tt) (blocks (field d 14 2) 40 (drop 40 d)) tt (sym (b ∙ (λ i. checked_blocks (is i).count 40 (t i))))
+            found = map_ok_from (λ _. tt) (blocks (field d 14 2) 40 (drop 40 d)) tt (sym (b ∙ (λ i. checked_blocks (is i).count 40 (rest_is i))))
 
             abbrev ms : List (List ℕ)
             ms = found.0
@@ -120,7 +141,7 @@ module _ (e : Expected) (d : List ℕ) where
             handed_is =
                 let l = length-drop 40 d in
                 let a = law in
-                o ∙ ((λ i. content_unread (is i) (t i)) ∙ content_carried (header_of d) (drop 40 d) ms law.counted
+                o ∙ ((λ i. content_unread (is i) (rest_is i)) ∙ content_carried (header_of d) (drop 40 d) ms law.counted
                 (unread_is (field d 14 2) (field d 24 8) (field d 16 8) 40 (drop 40 d) ms found.1 (omega arith) (omega arith)))
 
             bodies_are : map body_of (messages_of out) ≡ ms

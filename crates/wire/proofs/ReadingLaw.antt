@@ -12,7 +12,8 @@ use Rattle.wire.specs.Faults.{entry_of, fault}
 use Rattle.wire.specs.Fields.{field}
 use Rattle.wire.specs.Outcomes.{map_ok}
 use Rattle.wire.specs.ReadingLaw.{HeaderFault, too_short, too_long, another_version, another_protocol, another_channel, another_session, another_length, no_number, past_numbers, past_offsets, block_start, block_length, Whole, WholeBefore, BlockFault, length_cut, over_long, data_cut, left_over, LaidOut, ByLaw}
-use Rattle.wire.specs.Segments.{Z, other_session, header_checks, segment_of, read_segment}
+use Rattle.wire.specs.Addresses.{other_session}
+use Rattle.wire.specs.Segments.{Z, header_checks, segment_of, read_segment}
 use Rattle.wire.proofs.Blocks.{first_block_cases, after}
 use Rattle.wire.proofs.Outcomes.{NoneFails, Each, Rising, Fails, not_both, first_fault_cases}
 

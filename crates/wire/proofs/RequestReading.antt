@@ -39,11 +39,11 @@ module _ (k : Kind) (x : ExpectedRequest) (d : List ℕ) where
   behind = address_checks x.address d ++ count_checks x.transport d
 
   pub by_front : (f : Fault) → Err f ≡ first_fault (front_checks k d) passed → Err f ≡ read_request k x d
-  by_front f h = fault_found (front_checks k d) behind _ f h
+  by_front f h = fault_found _ (front_checks k d) behind _ f h
 
   module _ (s : passed ≡ first_fault (front_checks k d) passed) where
     pub by_address : (f : Fault) → Err f ≡ first_fault (address_checks x.address d) passed → Err f ≡ read_request k x d
-    by_address f h = fault_found (address_checks x.address d) (count_checks x.transport d) _ f h ∙ sym (none_found (front_checks k d) behind _ s)
+    by_address f h = fault_found _ (address_checks x.address d) (count_checks x.transport d) _ f h ∙ sym (none_found _ _ (front_checks k d) behind _ s)
 
     module _ (a : passed ≡ first_fault (address_checks x.address d) passed) where
       abbrev told : Read
@@ -51,14 +51,14 @@ module _ (k : Kind) (x : ExpectedRequest) (d : List ℕ) where
 
       address_passed : first_fault (count_checks x.transport d) told ≡ read_request k x d
       address_passed =
-          sym (none_found (front_checks k d) behind told s ∙ none_found (address_checks x.address d) (count_checks x.transport d) told a)
+          sym (none_found _ _ (front_checks k d) behind told s ∙ none_found _ _ (address_checks x.address d) (count_checks x.transport d) told a)
 
       pub by_count : (f : Fault) → Err f ≡ first_fault (count_checks x.transport d) passed → Err f ≡ read_request k x d
-      by_count f h = fault_found (count_checks x.transport d) [] told f h ∙ address_passed
+      by_count f h = fault_found _ (count_checks x.transport d) [] told f h ∙ address_passed
 
       module _ (n : passed ≡ first_fault (count_checks x.transport d) passed) where
         all_passed : told ≡ read_request k x d
-        all_passed = sym (none_found (count_checks x.transport d) [] told n) ∙ address_passed
+        all_passed = sym (none_found _ _ (count_checks x.transport d) [] told n) ∙ address_passed
 
         pub by_ranges : (f : Fault) → Err f ≡ checked_ranges k x.after (field d 12 4) 16 (drop 16 d) → Err f ≡ read_request k x d
         by_ranges f h = same_fault told f h ∙ all_passed

@@ -22,7 +22,7 @@ part_is d at = let n : (at + 16) - at ≡ 16 = omega arith in ap (λ n. take n (
 pub range_refused : (k : Kind) (after : Option ℕ) (at : ℕ) (part : List ℕ) (r : Range) (f : Fault) → r ≡ range_of part
     → Err f ≡ first_fault (range_checks k after at r) passed → Err f ≡ checked_range k after at part
 range_refused k after at part r f is e =
-    subst (λ (x : Range). Err f ≡ first_fault (range_checks k after at x) (Ok x)) is (fault_found (range_checks k after at r) [] (Ok r) f e)
+    subst (λ (x : Range). Err f ≡ first_fault (range_checks k after at x) (Ok x)) is (fault_found _ (range_checks k after at r) [] (Ok r) f e)
 
 -- what is read after a first range
 abbrev pub after_range : Kind → ℕ → ℕ → List ℕ → Result Range Fault → Result (List Range) Fault

@@ -12,7 +12,8 @@ use Rattle.wire.specs.Fields.{bytes_of, field, Octets}
 use Rattle.wire.specs.Outcomes.{map_ok}
 use Rattle.wire.specs.ReadingLaw.{too_long, another_version, another_length, ByLaw, Accepted}
 use Rattle.wire.specs.RoundTrip.{FitsHeader, Expects, ReadsAs, reserved_cleared}
-use Rattle.wire.specs.Segments.{Plain, Z, other_session, header_checks, segment_of, read_segment}
+use Rattle.wire.specs.Addresses.{other_session}
+use Rattle.wire.specs.Segments.{Plain, Z, header_checks, segment_of, read_segment}
 use Rattle.wire.specs.Sessions.{span}
 use Rattle.wire.specs.Writing.{block_bytes, payload_bytes, segment_bytes, some_long, past_limits}
 use Rattle.wire.proofs.Blocks.{first_block_cases, first_block_good, after}

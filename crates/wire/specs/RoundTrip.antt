@@ -6,7 +6,8 @@ use Rattle.wire.specs.declared.address.Expected.{Expected}
 use Rattle.wire.specs.declared.fault.Fault.{Fault}
 use Rattle.wire.specs.declared.segment.Header.{Header}
 use Rattle.wire.specs.Fields.{Octets}
-use Rattle.wire.specs.Segments.{Plain, other_session, read_segment}
+use Rattle.wire.specs.Addresses.{other_session}
+use Rattle.wire.specs.Segments.{Plain, read_segment}
 
 -- the parts of an address fit their widths, as in every address of the code
 pub record FitsAddress (a : Address) : Type 0 where

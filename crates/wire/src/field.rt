@@ -1,40 +1,63 @@
 // Little-endian fields of a datagram.
-ghost use Rattle.std.specs.Prelude.{◌≡◌, ◌+◌, ◌≤◌, length, take, drop};
-ghost use Rattle.wire.specs.Fields.{field, bytes_of, overwritten};
+ghost use Rattle.std.specs.Prelude.{◌≡◌, ℕ, ◌+◌, ◌≤◌, length, take, drop};
+ghost use Rattle.wire.specs.Fields.{le, field, bytes_of, overwritten};
 
-// The `N` bytes at `at`.
-fn bytes_at<const N: usize>(bytes: &[u8], at: usize) -> &[u8; N]
-    requires { at + N ≤ length bytes.now }
-    ensures { result.now ≡ take N (drop at bytes.now) }
-{
-    match bytes[at..].first_chunk::<N>() {
-        Some(part) => part,
-        None => unreachable(),
+// An unsigned number of `N` bytes: a Byte, a Short, an Integer or a Long.
+pub(crate) trait Field<const N: usize>: Copy {
+    // the number
+    ghost number: { Self → ℕ };
+
+    // The number that the bytes write, the lowest first.
+    fn from_bytes(bytes: &[u8; N]) -> Self
+        ensures { number result ≡ le bytes.now };
+
+    // The bytes that write the number, the lowest first.
+    fn to_bytes(self) -> [u8; N]
+        ensures { result ≡ bytes_of N (number self) };
+}
+
+impl Field<2> for u16 {
+    ghost number = { λ n. n };
+
+    fn from_bytes(bytes: &[u8; 2]) -> u16 {
+        u16::from_le_bytes(*bytes)
+    }
+
+    fn to_bytes(self) -> [u8; 2] {
+        self.to_le_bytes()
     }
 }
 
-// The Short at `at`.
-pub(crate) fn u16_at(bytes: &[u8], at: usize) -> u16
-    requires { at + 2 ≤ length bytes.now }
-    ensures { result ≡ field bytes.now at 2 }
-{
-    u16::from_le_bytes(*bytes_at::<2>(bytes, at))
+impl Field<4> for u32 {
+    ghost number = { λ n. n };
+
+    fn from_bytes(bytes: &[u8; 4]) -> u32 {
+        u32::from_le_bytes(*bytes)
+    }
+
+    fn to_bytes(self) -> [u8; 4] {
+        self.to_le_bytes()
+    }
 }
 
-// The Integer at `at`.
-pub(crate) fn u32_at(bytes: &[u8], at: usize) -> u32
-    requires { at + 4 ≤ length bytes.now }
-    ensures { result ≡ field bytes.now at 4 }
-{
-    u32::from_le_bytes(*bytes_at::<4>(bytes, at))
+impl Field<8> for u64 {
+    ghost number = { λ n. n };
+
+    fn from_bytes(bytes: &[u8; 8]) -> u64 {
+        u64::from_le_bytes(*bytes)
+    }
+
+    fn to_bytes(self) -> [u8; 8] {
+        self.to_le_bytes()
+    }
 }
 
-// The bits of the Long at `at`: a negative one reads as a number above the largest Long.
-pub(crate) fn u64_at(bytes: &[u8], at: usize) -> u64
-    requires { at + 8 ≤ length bytes.now }
-    ensures { result ≡ field bytes.now at 8 }
+// The field at `at`. The bits of a negative Long read as a number above the largest Long.
+pub(crate) fn field_at<const N: usize, T: Field<N>>(bytes: &[u8], at: usize) -> T
+    requires { at + N ≤ length bytes.now }
+    ensures { T.number result ≡ field bytes.now at N }
 {
-    u64::from_le_bytes(*bytes_at::<8>(bytes, at))
+    T::from_bytes(bytes[at..].first_chunk().unwrap())
 }
 
 // Writes `bytes` over what stands at `at`.
@@ -45,26 +68,10 @@ pub(crate) fn put(out: &mut [u8], at: usize, bytes: &[u8])
     out[at..at + bytes.len()].copy_from_slice(bytes);
 }
 
-// Writes a Short at `at`.
-pub(crate) fn put_u16(out: &mut [u8], at: usize, value: u16)
-    requires { at + 2 ≤ length out.old }
-    ensures { out.new ≡ overwritten out.old at (bytes_of 2 value) }
+// Writes a field at `at`.
+pub(crate) fn put_field<const N: usize, T: Field<N>>(out: &mut [u8], at: usize, value: T)
+    requires { at + N ≤ length out.old }
+    ensures { out.new ≡ overwritten out.old at (bytes_of N (T.number value)) }
 {
-    put(out, at, &value.to_le_bytes());
-}
-
-// Writes an Integer at `at`.
-pub(crate) fn put_u32(out: &mut [u8], at: usize, value: u32)
-    requires { at + 4 ≤ length out.old }
-    ensures { out.new ≡ overwritten out.old at (bytes_of 4 value) }
-{
-    put(out, at, &value.to_le_bytes());
-}
-
-// Writes the bits of a Long at `at`.
-pub(crate) fn put_u64(out: &mut [u8], at: usize, value: u64)
-    requires { at + 8 ≤ length out.old }
-    ensures { out.new ≡ overwritten out.old at (bytes_of 8 value) }
-{
-    put(out, at, &value.to_le_bytes());
+    put(out, at, &value.to_bytes());
 }

@@ -3,7 +3,7 @@ ghost use Rattle.std.specs.Prelude.{◌≡◌, ◌≤◌, [], ◌∷◌, length,
 ghost use Rattle.wire.specs.Requests.{range_of, unread_ranges};
 ghost use Rattle.std.specs.Iterator.{at_most};
 
-use crate::field::u64_at;
+use crate::field::field_at;
 use crate::request::Range;
 
 // The range that 16 bytes name.
@@ -12,8 +12,8 @@ pub(crate) fn range_in(part: &[u8]) -> Range
     ensures { result ≡ range_of part.now }
 {
     Range {
-        first: u64_at(part, 0),
-        last: u64_at(part, 8),
+        first: field_at(part, 0),
+        last: field_at(part, 8),
     }
 }
 

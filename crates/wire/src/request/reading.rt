@@ -7,7 +7,7 @@ ghost use Rattle.wire.specs.Requests.{front_checks, address_checks, count_checks
 
 use crate::address::Address;
 use crate::fault::{Fault, Refusal};
-use crate::field::{u16_at, u32_at};
+use crate::field::field_at;
 use crate::limits::{LONG_MAX, VERSION};
 use crate::request::ranges::range_in;
 use crate::request::{
@@ -37,13 +37,13 @@ fn check_address(request: &[u8], address: &Address) -> Result<(), Fault>
     requires { 16 ≤ length request.now }
     ensures { result ≡ first_fault (address_checks address.now request.now) (Ok tt) }
 {
-    if u16_at(request, 2) != address.protocol {
+    if address.protocol != field_at(request, 2) {
         return Err(Refusal::WrongRequestProtocol.at(2));
     }
-    if u32_at(request, 4) != address.channel {
+    if address.channel != field_at(request, 4) {
         return Err(Refusal::WrongRequestChannel.at(4));
     }
-    if u32_at(request, 8) != address.session {
+    if address.session != field_at(request, 8) {
         return Err(Refusal::WrongRequestSession.at(8));
     }
     Ok(())
@@ -54,7 +54,8 @@ fn check_count(request: &[u8], transport: Transport) -> Result<(), Fault>
     requires { 16 ≤ length request.now }
     ensures { result ≡ first_fault (count_checks transport request.now) (Ok tt) }
 {
-    let count = u32_at(request, 12) as usize;
+    let count: u32 = field_at(request, 12);
+    let count = count as usize;
     if count > MAX_RANGES || (count == 0 && transport == Transport::Stream) {
         return Err(Refusal::WrongRangeCount.at(12));
     }

@@ -7,7 +7,7 @@ ghost use Rattle.wire.specs.RoundTrip.{FitsAddress};
 
 use crate::address::Address;
 use crate::fault::{Fault, Refusal};
-use crate::field::{put, put_u16, put_u32, put_u64};
+use crate::field::{put, put_field};
 use crate::limits::VERSION;
 use crate::request::reading::check_range;
 use crate::request::{Kind, MAX_RANGES, RANGE_LEN, REQUEST_HEADER_LEN, Range, RangeKind};
@@ -39,18 +39,18 @@ fn put_request_header(out: &mut [u8], kind: Kind, address: &Address, count: u32)
     ensures after { out.new ≡ overwritten out.old 0 (request_header_bytes kind address.now count) }
 {
     put(out, 0, &[VERSION, kind.code]);
-    put_u16(out, 2, address.protocol);
-    put_u32(out, 4, address.channel);
-    put_u32(out, 8, address.session);
-    put_u32(out, 12, count);
+    put_field(out, 2, address.protocol);
+    put_field(out, 4, address.channel);
+    put_field(out, 8, address.session);
+    put_field(out, 12, count);
 }
 
 fn put_range(out: &mut [u8], at: usize, range: Range)
     requires { at + 16 ≤ length out.old }
     ensures { out.new ≡ overwritten out.old at (range_bytes range) }
 {
-    put_u64(out, at, range.first);
-    put_u64(out, at + 8, range.last);
+    put_field(out, at, range.first);
+    put_field(out, at + 8, range.last);
 }
 
 // Writes the ranges behind the header.

@@ -1,83 +1,81 @@
 // Reading a segment out of a datagram.
-ghost use Rattle.std.specs.Prelude.{◌≡◌, ◌≤◌, length, IfOk, Ok};
+ghost use Rattle.std.specs.Prelude.{◌≡◌, IfOk, Ok};
 ghost use Rattle.wire.specs.Cursor.{unread};
 ghost use Rattle.wire.specs.Outcomes.{map_ok, first_fault};
 ghost use Rattle.wire.specs.ReadingLaw.{ByLaw};
-ghost use Rattle.wire.specs.Segments.{size_checks, address_checks, range_checks, header_of, read_segment};
+ghost use Rattle.wire.specs.Segments.{split_header, address_checks, range_checks, header_of, read_segment};
 ghost use Rattle.wire.specs.Views.{handed, content_unread, messages_of, plain, HandedInOrder};
 
-use crate::address::{Address, Expected};
+use crate::address::{Address, AddressRefusals, Expected};
 use crate::block::check_blocks;
 use crate::fault::{Fault, Refusal};
-use crate::field::{u16_at, u32_at, u64_at};
+use crate::field::field_at;
 use crate::limits::{LONG_MAX, MAX_DATAGRAM, VERSION};
 use crate::messages::Messages;
 use crate::segment::{Content, HEADER_LEN, Header, Segment};
 
-fn check_size(datagram: &[u8]) -> Result<(), Fault>
-    ensures { result ≡ first_fault (size_checks datagram.now) (Ok tt) }
+// The refusals of an address that is not the expected one.
+const ADDRESS_REFUSALS: AddressRefusals = AddressRefusals {
+    protocol: Refusal::WrongProtocol,
+    channel: Refusal::WrongChannel,
+    session: Refusal::WrongSession,
+};
+
+// The header and the payload of a datagram that is neither too short nor too long.
+fn split_header(datagram: &[u8]) -> Result<(&[u8; HEADER_LEN], &[u8]), Fault>
+    ensures { map_ok (λ p. (p.0.now, p.1.now)) result ≡ split_header datagram.now }
 {
-    if datagram.len() < HEADER_LEN {
-        return Err(Refusal::ShortDatagram.at(datagram.len() as u64));
-    }
+    let parts = datagram
+        .split_first_chunk()
+        .ok_or(Refusal::ShortDatagram.at(datagram.len() as u64))?;
     if datagram.len() > MAX_DATAGRAM {
         return Err(Refusal::LongDatagram.at(MAX_DATAGRAM as u64));
     }
-    Ok(())
+    Ok(parts)
 }
 
-fn check_address(datagram: &[u8], expected: &Expected) -> Result<(), Fault>
-    requires { 40 ≤ length datagram.now }
-    ensures { result ≡ first_fault (address_checks expected.now datagram.now) (Ok tt) }
+fn check_address(header: &[u8; HEADER_LEN], expected: &Expected) -> Result<(), Fault>
+    ensures { result ≡ first_fault (address_checks expected.now header.now) (Ok tt) }
 {
-    if datagram[0] != VERSION {
+    if header[0] != VERSION {
         return Err(Refusal::WrongVersion.at(0));
     }
-    if u16_at(datagram, 2) != expected.protocol {
-        return Err(Refusal::WrongProtocol.at(2));
-    }
-    if u32_at(datagram, 4) != expected.channel {
-        return Err(Refusal::WrongChannel.at(4));
-    }
-    match expected.session {
-        Some(session) if u32_at(datagram, 8) != session => Err(Refusal::WrongSession.at(8)),
-        _ => Ok(()),
-    }
+    expected.check_address(header, &ADDRESS_REFUSALS)
 }
 
-fn check_ranges(datagram: &[u8]) -> Result<(), Fault>
-    requires { 40 ≤ length datagram.now }
-    ensures { result ≡ first_fault (range_checks datagram.now) (Ok tt) }
+// Whether the length of a datagram and the numbers that its header names are in range.
+fn check_ranges(header: &[u8; HEADER_LEN], datagram_len: usize) -> Result<(), Fault>
+    ensures { result ≡ first_fault (range_checks header.now datagram_len) (Ok tt) }
 {
-    let payload = u16_at(datagram, 12);
-    if datagram.len() != HEADER_LEN + usize::from(payload) {
+    let payload: u16 = field_at(header, 12);
+    if datagram_len != HEADER_LEN + usize::from(payload) {
         return Err(Refusal::WrongLength.at(12));
     }
-    let count = u16_at(datagram, 14);
-    let first = u64_at(datagram, 24);
+    let count: u16 = field_at(header, 14);
+    let first: u64 = field_at(header, 24);
     if first < 1 || first > LONG_MAX - u64::from(count) {
         return Err(Refusal::OutOfRange.at(24));
     }
-    if u64_at(datagram, 16) > LONG_MAX - u64::from(payload) {
+    let offset: u64 = field_at(header, 16);
+    if offset > LONG_MAX - u64::from(payload) {
         return Err(Refusal::OutOfRange.at(16));
     }
     Ok(())
 }
 
-fn read_header(datagram: &[u8]) -> Header
-    requires { 40 ≤ length datagram.now }
-    ensures { result ≡ header_of datagram.now }
+fn read_header(header: &[u8; HEADER_LEN]) -> Header
+    ensures { result ≡ header_of header.now }
 {
     Header {
         address: Address {
-            protocol: u16_at(datagram, 2),
-            channel: u32_at(datagram, 4),
-            session: u32_at(datagram, 8),
+            protocol: field_at(header, 2),
+            channel: field_at(header, 4),
+            session: field_at(header, 8),
         },
-        offset: u64_at(datagram, 16),
-        first: u64_at(datagram, 24),
-        count: u16_at(datagram, 14),
-        time: u64_at(datagram, 32).cast_signed(),
+        offset: field_at(header, 16),
+        first: field_at(header, 24),
+        count: field_at(header, 14),
+        time: field_at::<8, u64>(header, 32).cast_signed(),
     }
 }
 
@@ -110,11 +108,10 @@ pub fn read<'a>(datagram: &'a [u8], expected: &Expected) -> Result<Segment<'a>, 
     ensures content { IfOk result HandedInOrder }
     ensures law { ByLaw expected.now datagram.now (map_ok plain result) }
 {
-    check_size(datagram)?;
-    check_address(datagram, expected)?;
-    check_ranges(datagram)?;
-    let header = read_header(datagram);
-    let payload = &datagram[HEADER_LEN..];
+    let (header, payload) = split_header(datagram)?;
+    check_address(header, expected)?;
+    check_ranges(header, datagram.len())?;
+    let header = read_header(header);
     check_blocks(header.count, HEADER_LEN as u64, payload)?;
     let content = read_content(&header, payload);
     Ok(Segment { header, content })

@@ -7,7 +7,7 @@ ghost use Rattle.wire.specs.Sessions.{span};
 ghost use Rattle.wire.specs.Writing.{header_bytes, block_bytes, payload_bytes, segment_bytes, segment_with, too_large, measured, checked_limits, write_segment, copied};
 
 use crate::fault::{Fault, Refusal};
-use crate::field::{put, put_u16, put_u32, put_u64};
+use crate::field::{put, put_field};
 use crate::limits::{LONG_MAX, MAX_MESSAGE, MAX_PAYLOAD, VERSION};
 use crate::segment::{HEADER_LEN, Header};
 
@@ -71,14 +71,14 @@ fn put_header(out: &mut [u8], header: &Header, payload: u16)
     ensures after { out.new ≡ overwritten out.old 0 (header_bytes header.now payload) }
 {
     put(out, 0, &[VERSION, 0]);
-    put_u16(out, 2, header.address.protocol);
-    put_u32(out, 4, header.address.channel);
-    put_u32(out, 8, header.address.session);
-    put_u16(out, 12, payload);
-    put_u16(out, 14, header.count);
-    put_u64(out, 16, header.offset);
-    put_u64(out, 24, header.first);
-    put_u64(out, 32, header.time.cast_unsigned());
+    put_field(out, 2, header.address.protocol);
+    put_field(out, 4, header.address.channel);
+    put_field(out, 8, header.address.session);
+    put_field(out, 12, payload);
+    put_field(out, 14, header.count);
+    put_field(out, 16, header.offset);
+    put_field(out, 24, header.first);
+    put_field(out, 32, header.time.cast_unsigned());
 }
 
 // Writes the block of message `index` at `at`, and answers where it ends.
@@ -88,7 +88,7 @@ fn put_block<B: Bodies>(out: &mut [u8], at: usize, bodies: &B, index: usize) -> 
     ensures after { out.new ≡ overwritten out.old at (block_bytes (slice_index_or (B.Bodies.messages bodies.now) index [])) }
 {
     let size = bodies.copy(index, &mut out[at + 2..]);
-    put_u16(out, at, size as u16);
+    put_field(out, at, size as u16);
     at + 2 + size
 }
 

@@ -7,6 +7,6 @@ returns g c =
     let m = get_or (g.B.Bodies.messages c.args.bodies.now) c.args.index [] in
     record {
       value = omega (arith, c.copy-size.ensures.value);
-      after = block_written c.args.out.now c.copy-size.new.out c.put_u16.new.out m c.args.at c.copy-size.result
-          c.copy-size.ensures.value c.copy-size.ensures.after c.put_u16.ensures (omega arith);
+      after = block_written c.args.out.now c.copy-size.new.out c.put_field.new.out m c.args.at c.copy-size.result
+          c.copy-size.ensures.value c.copy-size.ensures.after c.put_field.ensures (omega arith);
     }
