@@ -6,7 +6,6 @@ use Rattle.wire.specs.declared.fault.Fault.{Fault}
 use Rattle.wire.specs.declared.fault.Refusal.{Refusal}
 use Rattle.wire.specs.declared.fault.Refusal.TheVariants.{WrongRangeCount, InvalidRange, RangesNotAscending}
 use Rattle.wire.specs.declared.request.ExpectedRequest.{ExpectedRequest}
-use Rattle.wire.specs.declared.request.Kind.{Kind}
 use Rattle.wire.specs.declared.request.Range.{Range}
 use Rattle.wire.specs.declared.request.Transport.{Transport}
 use Rattle.wire.specs.declared.request.Transport.TheVariants.{Datagram, Stream}
@@ -14,7 +13,7 @@ use Rattle.wire.specs.Faults.{entry_of, fault}
 use Rattle.wire.specs.Fields.{le, field}
 use Rattle.wire.specs.Outcomes.{map_ok, and_then}
 use Rattle.wire.specs.RequestLaw.{RequestHeaderFault, too_short, another_version, another_type, another_protocol, another_channel, another_session, too_many_ranges, no_ranges, another_length, range_at, Valid, Above, value_before, GoodRange, GoodBefore, RangeFault, not_valid, not_ascending, Ascending, RequestByLaw}
-use Rattle.wire.specs.Requests.{is_stream, header_checks, range_of, invalid, not_above, checked_range, ranges, read_request}
+use Rattle.wire.specs.Requests.{Kind, is_stream, header_checks, range_of, invalid, not_above, checked_range, ranges, ranges_from, read_request}
 use Rattle.wire.specs.Segments.{Z}
 use Rattle.wire.proofs.Outcomes.{NoneFails, Each, Rising, Fails, not_both, first_fault_cases}
 
@@ -53,18 +52,18 @@ pub above_from : (o : Option ℕ) (n : ℕ) → not_above o n ≡ false → Abov
 above_from None n t = tt
 above_from (Some value) n t = leb-false n value t
 
--- a property of what the range in 16 bytes gives, case by case
-pub checked_range_cases : (k : Kind) (after : Option ℕ) (at : ℕ) (bs : List ℕ) (P : Result Range Fault → Type 0)
-    → ((Valid k (range_of bs) → ⊥) → P (Err (fault InvalidRange at)))
-    → (Valid k (range_of bs) → (Above after (range_of bs).first → ⊥) → P (Err (fault RangesNotAscending at)))
-    → (Valid k (range_of bs) → Above after (range_of bs).first → P (Ok (range_of bs)))
-    → P (checked_range k after at bs)
-checked_range_cases k after at bs P wrong low good =
-    cond_both (invalid k (range_of bs)) _ _ P (λ e. wrong (invalid_not k (range_of bs) e))
-    (λ e. let v = valid_from k (range_of bs) e in
-    cond_both (not_above after (range_of bs).first) _ _ P
-    (λ l. low v (not_above_not after (range_of bs).first l))
-    (λ l. good v (above_from after (range_of bs).first l)))
+-- a property of what a range gives, case by case
+pub checked_range_cases : (k : Kind) (after : Option ℕ) (at : ℕ) (r : Range) (P : Result Range Fault → Type 0)
+    → ((Valid k r → ⊥) → P (Err (fault InvalidRange at)))
+    → (Valid k r → (Above after r.first → ⊥) → P (Err (fault RangesNotAscending at)))
+    → (Valid k r → Above after r.first → P (Ok r))
+    → P (checked_range k after at r)
+checked_range_cases k after at r P wrong low good =
+    cond_both (invalid k r) _ _ P (λ e. wrong (invalid_not k r e))
+    (λ e. let v = valid_from k r e in
+    cond_both (not_above after r.first) _ _ P
+    (λ l. low v (not_above_not after r.first l))
+    (λ l. good v (above_from after r.first l)))
 
 -- requests that come by a stream
 stream_is : (t : Transport) → is_stream t ≡ true → t ≡ Stream
@@ -142,7 +141,7 @@ module _ (k : Kind) (x : ExpectedRequest) (d : List ℕ) where
 
   -- n ranges from range j on, in the bytes from its place on, after good ones
   ranges_law : (n j at : ℕ) (bs : List ℕ) → j + n ≡ field d 12 4 → at ≡ 16 + 16 * j → bs ≡ drop (16 + 16 * j) d → GoodBefore k x d j
-      → RangesLaw n j (ranges k (value_before x d j) n at bs)
+      → RangesLaw n j (ranges k (value_before x d j) at (ranges_from n bs))
   ranges_law zero j at bs c a b g =
       let all : j ≡ field d 12 4 = omega arith in (refl, subst (GoodBefore k x d) all g, λ i r h. absurd (omega arith), tt)
   ranges_law (suc n) j at bs c a b g =
@@ -150,15 +149,15 @@ module _ (k : Kind) (x : ExpectedRequest) (d : List ℕ) where
       let next : 16 + 16 * j + 16 ≡ 16 + 16 * suc j = omega arith in
       let rest_is : drop 16 bs ≡ drop (16 + 16 * suc j) d = ap (drop 16) b ∙ (drop-drop 16 (16 + 16 * j) d ∙ ap (λ y. drop y d) next) in
       let at_place : (r : Refusal) → RangeFault k x d r (16 + 16 * j) → RangeFault k x d r at = λ r. subst (RangeFault k x d r) (sym a) in
-      let go_on : Range → Result (List Range) Fault = λ r. map_ok (λ rs. r ∷ rs) (ranges k (Some r.last) n (at + 16) (drop 16 bs)) in
-      checked_range_cases k (value_before x d j) at (take 16 bs) (λ r. RangesLaw (suc n) j (and_then r go_on))
+      let go_on : Range → Result (List Range) Fault = λ r. map_ok (λ rs. r ∷ rs) (ranges k (Some r.last) (at + 16) (ranges_from n (drop 16 bs))) in
+      checked_range_cases k (value_before x d j) at (range_of (take 16 bs)) (λ r. RangesLaw (suc n) j (and_then r go_on))
       (λ wrong. at_place InvalidRange (not_valid j (omega arith) g (λ v. wrong (subst (Valid k) (sym is) v))))
       (λ v low. at_place RangesNotAscending (not_ascending j (omega arith) g (subst (Valid k) is v)
       (λ y. low (subst (λ r. Above (value_before x d j) r.first) (sym is) y))))
       (λ v y. let good : GoodRange k x d j
       = record { valid = subst (Valid k) is v; above = subst (λ r. Above (value_before x d j) r.first) is y } in
       subst (λ r. RangesLaw (suc n) j (go_on r)) (sym is)
-      (one_more n j good (ranges k (value_before x d (suc j)) n (at + 16) (drop 16 bs))
+      (one_more n j good (ranges k (value_before x d (suc j)) (at + 16) (ranges_from n (drop 16 bs)))
       (ranges_law n (suc j) (at + 16) (drop 16 bs) (omega arith) (omega arith) rest_is
       (λ i h. below_more (GoodRange k x d) j g good i (omega arith)))))
 
@@ -200,8 +199,8 @@ module _ (k : Kind) (x : ExpectedRequest) (d : List ℕ) where
 pub requests_by_law : (k : Kind) (x : ExpectedRequest) (d : List ℕ) → RequestByLaw k x d (read_request k x d)
 requests_by_law k x d =
     first_fault_cases (HeaderFaulty k x d) 12 (header_checks k x d) (each_holds k x d) (numbers_rise k x d) (RequestByLaw k x d)
-    (ranges k x.after (field d 12 4) 16 (drop 16 d))
-    (λ none. by_ranges k x d none (ranges k x.after (field d 12 4) 16 (drop 16 d))
+    (ranges k x.after 16 (ranges_from (field d 12 4) (drop 16 d)))
+    (λ none. by_ranges k x d none (ranges k x.after 16 (ranges_from (field d 12 4) (drop 16 d)))
     (ranges_law k x d (field d 12 4) 0 16 (drop 16 d) (omega arith) refl refl (λ j h. absurd (omega arith))))
     (λ f q lowest. record {
       holds = inl q.0;

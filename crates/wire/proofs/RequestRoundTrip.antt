@@ -5,14 +5,13 @@ use Rattle.std.proofs.lemmas.Bool.{cases_eq, cases_lt, le-ltb, ltb-false, lt-leb
 use Rattle.wire.specs.declared.address.Address.{Address}
 use Rattle.wire.specs.declared.fault.Refusal.TheVariants.{WrongRequestVersion, WrongRequestType, WrongRequestProtocol, WrongRequestChannel, WrongRequestSession, WrongRangeCount, WrongRequestLength}
 use Rattle.wire.specs.declared.request.ExpectedRequest.{ExpectedRequest}
-use Rattle.wire.specs.declared.request.Kind.{Kind}
 use Rattle.wire.specs.declared.request.Range.{Range}
 use Rattle.wire.specs.declared.request.Transport.{Transport}
 use Rattle.wire.specs.declared.request.Transport.TheVariants.{Datagram, Stream}
 use Rattle.wire.specs.Fields.{bytes_of, field, Octets}
 use Rattle.wire.specs.Outcomes.{map_ok}
 use Rattle.wire.specs.RequestLaw.{Valid, Above, Ascending, another_version, another_type, another_protocol, another_channel, another_session, too_many_ranges, another_length, RequestAccepted, RequestByLaw}
-use Rattle.wire.specs.Requests.{is_stream, header_checks, range_of, invalid, not_above, range_checks, checked_range, ranges, ranges_from, read_request}
+use Rattle.wire.specs.Requests.{Kind, is_stream, header_checks, range_of, invalid, not_above, range_checks, ranges, ranges_from, read_request}
 use Rattle.wire.specs.RequestWriting.{range_bytes, ranges_bytes, request_bytes, unordered, ranges_past_limits, BeginsAbove, ExpectsRanges, RequestReadsAs}
 use Rattle.wire.specs.RoundTrip.{FitsAddress}
 use Rattle.wire.specs.Segments.{Z}
@@ -55,21 +54,22 @@ pub ordered_from : (k : Kind) (after : Option ℕ) (rs : List Range) → Ascendi
 ordered_from k after [] a = refl
 ordered_from k after (r ∷ rs) a = or_from _ _ (not_invalid k r a.0) (ordered_after k (Some r.last) rs a.2)
 
--- ranges read back
-ranges_back : (k : Kind) (after : Option ℕ) (rs : List Range) (at : ℕ) → Ascending k after rs → ranges k after (length rs) at (ranges_bytes rs) ≡ Ok rs
+-- ranges that ascend are accepted
+ranges_back : (k : Kind) (after : Option ℕ) (rs : List Range) (at : ℕ) → Ascending k after rs → ranges k after at rs ≡ Ok rs
 ranges_back k after [] at a = refl
 ranges_back k after (r ∷ rs) at a =
+    ap (after_range k at rs) (none_fails (range_checks k after at r) (Ok r) (not_invalid k r a.0, (is_above after r.first a.1, tt)))
+    ∙ ap (map_ok (λ (xs : List Range). r ∷ xs)) (ranges_back k (Some r.last) rs (at + 16) a.2)
+
+-- and the bytes of valid ranges name them
+ranges_named : (k : Kind) (after : Option ℕ) (rs : List Range) → Ascending k after rs → ranges_from (length rs) (ranges_bytes rs) ≡ rs
+ranges_named k after [] a = refl
+ranges_named k after (r ∷ rs) a =
     let v = a.0 in
     let bs = range_bytes r ++ ranges_bytes rs in
     let first : field (take 16 bs) 0 8 ≡ r.first = le-bytes_of 8 r.first (omega arith) in
     let last : field (take 16 bs) 8 8 ≡ r.last = le-bytes_of 8 r.last (omega arith) in
-    let is : range_of (take 16 bs) ≡ r = λ i. record { first = first i; last = last i } in
-    let good : NoneFails (range_checks k after at r) = (not_invalid k r v, (is_above after r.first a.1, tt)) in
-    let read : checked_range k after at (take 16 bs) ≡ Ok r
-    = subst (λ (x : Range). checked_range k after at (take 16 bs) ≡ Ok x) is
-    (none_fails (range_checks k after at (range_of (take 16 bs))) (Ok (range_of (take 16 bs))) (subst (λ (x : Range). NoneFails (range_checks k after at x)) (sym is) good)) in
-    ap (after_range k (length rs) at bs) read
-    ∙ ap (map_ok (λ (xs : List Range). r ∷ xs)) (ranges_back k (Some r.last) rs (at + 16) a.2)
+    λ i. record { first = first i; last = last i } ∷ ranges_named k (Some r.last) rs a.2 i
 
 neither : (b : Bool) → (b && false) ≡ false
 neither true = refl
@@ -134,8 +134,10 @@ module _ (k : Kind) (a : Address) (rs : List Range) (f : FitsAddress a) (l : ran
   pub request_reads_back : RequestReadsAs k d a rs
   request_reads_back x e =
       let u = (or_parts (ltb 64 (length rs)) (unordered k None rs) l).1 in
+      let up = ascending_from k None x.after rs u e.above in
       none_fails (header_checks k x d) _ (nothing_wrong x e)
-      ∙ (ap (λ n. ranges k x.after n 16 (ranges_bytes rs)) count_is ∙ ranges_back k x.after rs 16 (ascending_from k None x.after rs u e.above))
+      ∙ (ap (λ n. ranges k x.after 16 (ranges_from n (ranges_bytes rs))) count_is
+      ∙ (ap (ranges k x.after 16) (ranges_named k x.after rs up) ∙ ranges_back k x.after rs 16 up))
 
 -- ranges that were read, written again
 ranges_as_read : (n : ℕ) (bs : List ℕ) → Octets bs → length bs ≡ 16 * n → ranges_bytes (ranges_from n bs) ≡ bs
@@ -190,7 +192,7 @@ module _ (k : Kind) (x : ExpectedRequest) (d : List ℕ) (o : Octets d) (rs : Li
       = ⊎_elim sym (λ z. absurd (law.faultless WrongRequestChannel 4 (inl (another_channel z)))) (cases_eq (field d 4 4) x.address.channel) in
       let session : x.address.session ≡ field d 8 4
       = ⊎_elim sym (λ z. absurd (law.faultless WrongRequestSession 8 (inl (another_session z)))) (cases_eq (field d 8 4) x.address.session) in
-      let handed = handed_out k (field d 12 4) x.after 16 (drop 16 d) rs (past_checks (header_checks k x d) _ rs read).1 in
+      let handed = handed_out k x.after 16 (ranges_from (field d 12 4) (drop 16 d)) rs (past_checks (header_checks k x d) _ rs read).1 in
       let f16 : ranges_bytes rs ≡ drop 16 d
       = ap ranges_bytes (sym handed) ∙ ranges_as_read (field d 12 4) (drop 16 d) (Octets-drop 16 d o) (let w = whole in let l = length-drop 16 d in omega arith) in
       let f12 : bytes_of 4 (length rs) ++ _ ≡ drop 12 d = (λ i. bytes_of 4 (law.counted i) ++ f16 i) ∙ header_field 12 4 (omega arith) in

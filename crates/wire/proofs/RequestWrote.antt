@@ -2,10 +2,10 @@
 use Rattle.std.proofs.Common.{◌≡◌, ℕ, ◌+◌, ◌*◌, List, length, take, IfOk, Ok, Result, sym, refl, ap, ◌∙◌, arith}
 use Rattle.wire.specs.declared.address.Address.{Address}
 use Rattle.wire.specs.declared.fault.Fault.{Fault}
-use Rattle.wire.specs.declared.request.Kind.{Kind}
 use Rattle.wire.specs.declared.request.Range.{Range}
 use Rattle.wire.specs.Buffers.{left_by}
 use Rattle.wire.specs.Fields.{overwritten}
+use Rattle.wire.specs.Requests.{Kind}
 use Rattle.wire.specs.RequestWriting.{request_header_bytes, ranges_bytes, request_bytes, ranges_past_limits, write_request, RequestReadsAs, RequestWrittenAsRead}
 use Rattle.wire.specs.RoundTrip.{FitsAddress}
 use Rattle.wire.proofs.Buffers.{wrote_such, wrote_all}

@@ -1,44 +1,60 @@
 -- Laws of ranges, one by one.
-use Rattle.std.proofs.Common.{◌≡◌, ℕ, zero, suc, ◌+◌, ◌-◌, ◌/◌, ◌<◌, List, [], ◌∷◌, length, take, drop, Some, Ok, Err, Option, Result, sym, ap, ◌∙◌, subst, arith}
+use Rattle.std.proofs.Common.{◌≡◌, ℕ, zero, suc, ◌+◌, ◌<◌, Bool, true, false, cond, not, ◌||◌, List, [], ◌∷◌, map, length, get_or, take, drop, is_ok, Some, Ok, Err, Option, Result, sym, refl, ap, ◌∙◌}
+use Rattle.std.proofs.lemmas.List.{drop_more}
+use Rattle.std.specs.Simd.{first_chunks}
 use Rattle.wire.specs.declared.fault.Fault.{Fault}
-use Rattle.wire.specs.declared.request.Kind.{Kind}
+use Rattle.wire.specs.declared.fault.Refusal.TheVariants.{InvalidRange, RangesNotAscending}
 use Rattle.wire.specs.declared.request.Range.{Range}
+use Rattle.wire.specs.Faults.{fault}
 use Rattle.wire.specs.Outcomes.{map_ok, and_then, first_fault}
-use Rattle.wire.specs.Requests.{range_of, range_checks, checked_range, ranges, checked_ranges, ranges_from}
-use Rattle.wire.proofs.Outcomes.{passed, forget, fault_found}
-
--- the cursor: one range more
-pub ranges_more : (bs part rest : List ℕ) → part ≡ take 16 bs → rest ≡ drop 16 bs → length rest + 16 ≡ length bs
-    → ranges_from (length bs / 16) bs ≡ range_of part ∷ ranges_from (length rest / 16) rest
-ranges_more bs part rest p r l =
-    let n : length bs / 16 ≡ suc (length rest / 16) = omega arith in
-    ap (λ n. ranges_from n bs) n ∙ (λ i. range_of (sym p i) ∷ ranges_from (length rest / 16) (sym r i))
-
--- a range's part of a request
-pub part_is : (d : List ℕ) (at : ℕ) → take ((at + 16) - at) (drop at d) ≡ take 16 (drop at d)
-part_is d at = let n : (at + 16) - at ≡ 16 = omega arith in ap (λ n. take n (drop at d)) n
-
--- a range that is refused
-pub range_refused : (k : Kind) (after : Option ℕ) (at : ℕ) (part : List ℕ) (r : Range) (f : Fault) → r ≡ range_of part
-    → Err f ≡ first_fault (range_checks k after at r) passed → Err f ≡ checked_range k after at part
-range_refused k after at part r f is e =
-    subst (λ (x : Range). Err f ≡ first_fault (range_checks k after at x) (Ok x)) is (fault_found _ (range_checks k after at r) [] (Ok r) f e)
+use Rattle.wire.specs.Requests.{Kind, range_of, invalid, not_above, range_checks, ranges, checked_ranges, ranges_from}
+use Rattle.wire.specs.RequestWriting.{unordered}
+use Rattle.wire.proofs.Outcomes.{passed, forget, none_found, fault_found}
 
 -- what is read after a first range
-abbrev pub after_range : Kind → ℕ → ℕ → List ℕ → Result Range Fault → Result (List Range) Fault
-after_range k n at bs x = and_then x (λ (r : Range). map_ok (λ (rs : List Range). r ∷ rs) (ranges k (Some r.last) n (at + 16) (drop 16 bs)))
+abbrev pub after_range : Kind → ℕ → List Range → Result Range Fault → Result (List Range) Fault
+after_range k at rs x = and_then x (λ (r : Range). map_ok (λ (ts : List Range). r ∷ ts) (ranges k (Some r.last) (at + 16) rs))
 
-pub checked_more : (k : Kind) (after : Option ℕ) (n at : ℕ) (bs part : List ℕ) (r : Range) → 0 < n → part ≡ take 16 bs → Ok r ≡ checked_range k after at part
-    → checked_ranges k after n at bs ≡ checked_ranges k (Some r.last) (n - 1) (at + 16) (drop 16 bs)
-checked_more k after zero at bs part r h p e = absurd (omega arith)
-checked_more k after (suc n) at bs part r h p e =
-    let n_is : n ≡ suc n - 1 = omega arith in
-    ap (λ x. map_ok {Y = Unit {0}} (λ _. tt) (after_range k n at bs x)) (sym (e ∙ ap (checked_range k after at) p))
-    ∙ (forget (λ (rs : List Range). r ∷ rs) (ranges k (Some r.last) n (at + 16) (drop 16 bs))
-    ∙ ap (λ m. checked_ranges k (Some r.last) m (at + 16) (drop 16 bs)) n_is)
+-- range i is refused, or it is not
+module _ (k : Kind) (after : Option ℕ) (at : ℕ) (rs : List Range) (i : ℕ) (r : Range) (h : i < length rs) (is : r ≡ get_or rs i r) where
+  abbrev rest : List Range
+  rest = drop (i + 1) rs
 
-pub checked_err : (k : Kind) (after : Option ℕ) (n at : ℕ) (bs part : List ℕ) (f : Fault) → 0 < n → part ≡ take 16 bs → Err f ≡ checked_range k after at part
-    → Err f ≡ checked_ranges k after n at bs
-checked_err k after zero at bs part f h p e = absurd (omega arith)
-checked_err k after (suc n) at bs part f h p e =
-    ap (λ x. map_ok {Y = Unit {0}} (λ _. tt) (after_range k n at bs x)) (e ∙ ap (checked_range k after at) p)
+  from_here : checked_ranges k after at (drop i rs) ≡ checked_ranges k after at (r ∷ rest)
+  from_here = ap (checked_ranges k after at) (drop_more rs i r h ∙ ap (λ (x : Range). x ∷ rest) (sym is))
+
+  pub checked_err : (f : Fault) → Err f ≡ first_fault (range_checks k after at r) passed → Err f ≡ checked_ranges k after at (drop i rs)
+  checked_err f e =
+      ap (λ x. map_ok {Y = Unit {0}} (λ _. tt) (after_range k at rest x)) (fault_found _ (range_checks k after at r) [] (Ok r) f e) ∙ sym from_here
+
+  pub checked_more : passed ≡ first_fault (range_checks k after at r) passed
+      → checked_ranges k after at (drop i rs) ≡ checked_ranges k (Some r.last) (at + 16) rest
+  checked_more e =
+      from_here
+      ∙ (ap (λ x. map_ok {Y = Unit {0}} (λ _. tt) (after_range k at rest x)) (none_found _ _ (range_checks k after at r) [] (Ok r) e)
+      ∙ forget (λ (ts : List Range). r ∷ ts) (ranges k (Some r.last) (at + 16) rest))
+
+twice : (b : Bool) → b ≡ not (not b)
+twice true = refl
+twice false = refl
+
+-- ranges pass the checks, wherever they stand, exactly when they are in order
+first_and_rest : (b c : Bool) (f g : Fault) (r : Range) (go : Range → Result (List Range) Fault)
+    → is_ok (map_ok {Y = Unit {0}} (λ _. tt) (and_then (cond b (Err f) (cond c (Err g) (Ok r))) go)) ≡ not (b || (c || not (is_ok (map_ok {Y = Unit {0}} (λ _. tt) (go r)))))
+first_and_rest true c f g r go = refl
+first_and_rest false true f g r go = refl
+first_and_rest false false f g r go = twice (is_ok (map_ok {Y = Unit {0}} (λ _. tt) (go r)))
+
+pub checked-unordered : (k : Kind) (after : Option ℕ) (at : ℕ) (rs : List Range) → is_ok (checked_ranges k after at rs) ≡ not (unordered k after rs)
+checked-unordered k after at [] = refl
+checked-unordered k after at (r ∷ rs) =
+    let go : Range → Result (List Range) Fault = λ x. map_ok (λ (xs : List Range). x ∷ xs) (ranges k (Some x.last) (at + 16) rs) in
+    let others : is_ok (map_ok {Y = Unit {0}} (λ _. tt) (go r)) ≡ not (unordered k (Some r.last) rs)
+    = ap is_ok (forget (λ (xs : List Range). r ∷ xs) (ranges k (Some r.last) (at + 16) rs)) ∙ checked-unordered k (Some r.last) (at + 16) rs in
+    first_and_rest (invalid k r) (not_above after r.first) (fault InvalidRange at) (fault RangesNotAscending at) r go
+    ∙ ap (λ b. not (invalid k r || (not_above after r.first || b))) (ap not others ∙ sym (twice (unordered k (Some r.last) rs)))
+
+-- the bytes of ranges, range by range
+pub range_of-first_chunks : (n : ℕ) (bs : List ℕ) → map range_of (first_chunks 16 n bs) ≡ ranges_from n bs
+range_of-first_chunks zero bs = refl
+range_of-first_chunks (suc n) bs = ap (λ (rs : List Range). range_of (take 16 bs) ∷ rs) (range_of-first_chunks n (drop 16 bs))

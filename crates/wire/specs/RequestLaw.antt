@@ -5,11 +5,11 @@ use Rattle.wire.specs.declared.fault.Fault.{Fault}
 use Rattle.wire.specs.declared.fault.Refusal.{Refusal}
 use Rattle.wire.specs.declared.fault.Refusal.TheVariants.{ShortRequest, WrongRequestVersion, WrongRequestType, WrongRequestProtocol, WrongRequestChannel, WrongRequestSession, WrongRangeCount, WrongRequestLength, InvalidRange, RangesNotAscending}
 use Rattle.wire.specs.declared.request.ExpectedRequest.{ExpectedRequest}
-use Rattle.wire.specs.declared.request.Kind.{Kind}
 use Rattle.wire.specs.declared.request.Range.{Range}
 use Rattle.wire.specs.declared.request.Transport.TheVariants.{Stream}
 use Rattle.wire.specs.Faults.{entry_of}
 use Rattle.wire.specs.Fields.{field}
+use Rattle.wire.specs.Requests.{Kind}
 use Rattle.wire.specs.Segments.{Z}
 
 -- what can be wrong with a request's header, with the refusal and the place of each

@@ -4,13 +4,12 @@ use Rattle.std.specs.List.{flat_map}
 use Rattle.wire.specs.declared.address.Address.{Address}
 use Rattle.wire.specs.declared.fault.Fault.{Fault}
 use Rattle.wire.specs.declared.request.ExpectedRequest.{ExpectedRequest}
-use Rattle.wire.specs.declared.request.Kind.{Kind}
 use Rattle.wire.specs.declared.request.Range.{Range}
 use Rattle.wire.specs.declared.request.Transport.TheVariants.{Stream}
 use Rattle.wire.specs.Buffers.{write_answer}
 use Rattle.wire.specs.Fields.{bytes_of, Octets}
 use Rattle.wire.specs.RequestLaw.{Above}
-use Rattle.wire.specs.Requests.{invalid, not_above, read_request}
+use Rattle.wire.specs.Requests.{Kind, invalid, not_above, read_request}
 
 -- the bytes of a request's header before some ranges
 abbrev pub request_header_bytes : Kind → Address → ℕ → List ℕ

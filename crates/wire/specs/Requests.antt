@@ -1,17 +1,27 @@
 -- What a gap fill request asks for, or why it is refused. `RequestLaw` says the same by conditions, with no order of steps.
-use Rattle.std.specs.Prelude.{ℕ, zero, suc, ◌+◌, ◌*◌, ◌/◌, Bool, true, false, not, ◌&&◌, ◌||◌, List, [], ◌∷◌, ◌++◌, length, take, drop, Some, None, Ok, Option, Result, ◌==◌, nat_le, nat_lt}
+use Rattle.std.specs.Prelude.{ℕ, zero, suc, ◌+◌, ◌*◌, Bool, true, false, not, ◌&&◌, ◌||◌, List, [], ◌∷◌, ◌++◌, map, length, take, drop, Some, None, Ok, Option, Result, ◌==◌, nat_le, nat_lt}
 use Rattle.wire.specs.declared.address.Address.{Address}
+use Rattle.wire.specs.declared.address.AddressRefusals.{AddressRefusals}
 use Rattle.wire.specs.declared.fault.Fault.{Fault}
 use Rattle.wire.specs.declared.fault.Refusal.TheVariants.{ShortRequest, WrongRequestVersion, WrongRequestType, WrongRequestProtocol, WrongRequestChannel, WrongRequestSession, WrongRangeCount, WrongRequestLength, InvalidRange, RangesNotAscending}
 use Rattle.wire.specs.declared.request.ExpectedRequest.{ExpectedRequest}
-use Rattle.wire.specs.declared.request.Kind.{Kind}
 use Rattle.wire.specs.declared.request.Range.{Range}
 use Rattle.wire.specs.declared.request.Transport.{Transport}
 use Rattle.wire.specs.declared.request.Transport.TheVariants.{Datagram, Stream}
 use Rattle.wire.specs.declared.request.ranges.Ranges.{Ranges}
+use Rattle.wire.specs.Addresses.{expected_of, other_address_checks}
 use Rattle.wire.specs.Fields.{field}
 use Rattle.wire.specs.Outcomes.{map_ok, and_then, Check, check, first_fault}
 use Rattle.wire.specs.Segments.{Z}
+
+-- what the ranges of a request are of: the code in its type field, and the lowest value that a range may begin with
+pub record Kind : Type 0 where
+  pub code : ℕ
+  pub lowest : ℕ
+
+-- a kind with a code and a lowest value
+abbrev pub kind_of : ℕ → ℕ → Kind
+kind_of c l = record { code = c; lowest = l }
 
 -- ranges of message numbers: type 1, from 1 on
 abbrev pub by_numbers : Kind
@@ -21,37 +31,45 @@ by_numbers = record { code = 1; lowest = 1 }
 abbrev pub by_bytes : Kind
 by_bytes = record { code = 2; lowest = 0 }
 
--- what can be wrong with the size, the version and the type
+-- what can be wrong with the size
+abbrev pub size_checks : List ℕ → List Check
+size_checks d = check (nat_lt (length d) 16) ShortRequest (length d) ∷ []
+
+-- the header of a request that is not too short, and what stands behind it
+abbrev pub split_header : List ℕ → Result (List ℕ × List ℕ) Fault
+split_header d = first_fault (size_checks d) (Ok (take 16 d, drop 16 d))
+
+-- what can be wrong with the version and the type
 abbrev pub front_checks : Kind → List ℕ → List Check
 front_checks k d =
-    check (nat_lt (length d) 16) ShortRequest (length d)
-    ∷ check (not (field d 0 1 == 1)) WrongRequestVersion 0
+    check (not (field d 0 1 == 1)) WrongRequestVersion 0
     ∷ check (not (field d 1 1 == k.code)) WrongRequestType 1
     ∷ []
 
+-- the refusals of an address that is not the expected one
+abbrev pub address_refusals : AddressRefusals
+address_refusals = record { protocol = WrongRequestProtocol; channel = WrongRequestChannel; session = WrongRequestSession }
+
 -- what can be wrong with the address
 abbrev pub address_checks : Address → List ℕ → List Check
-address_checks a d =
-    check (not (field d 2 2 == a.protocol)) WrongRequestProtocol 2
-    ∷ check (not (field d 4 4 == a.channel)) WrongRequestChannel 4
-    ∷ check (not (field d 8 4 == a.session)) WrongRequestSession 8
-    ∷ []
+address_checks a d = other_address_checks address_refusals (expected_of a) d
 
 -- whether requests come by a stream
 abbrev pub is_stream : Transport → Bool
 is_stream Datagram = false
 is_stream Stream = true
 
--- what can be wrong with the count and the length
-abbrev pub count_checks : Transport → List ℕ → List Check
-count_checks t d =
+-- what can be wrong with the count, and with the length n of a request
+abbrev pub count_checks : Transport → List ℕ → ℕ → List Check
+count_checks t d n =
     check (nat_lt 64 (field d 12 4) || (field d 12 4 == 0 && is_stream t)) WrongRangeCount 12
-    ∷ check (not (length d == 16 + 16 * field d 12 4)) WrongRequestLength (length d)
+    ∷ check (not (n == 16 + 16 * field d 12 4)) WrongRequestLength n
     ∷ []
 
 -- all that can be wrong with a header, in the order in which it is looked for
 abbrev pub header_checks : Kind → ExpectedRequest → List ℕ → List Check
-header_checks k x d = front_checks k d ++ (address_checks x.address d ++ count_checks x.transport d)
+header_checks k x d =
+    size_checks d ++ (front_checks k d ++ (address_checks x.address d ++ count_checks x.transport d (length d)))
 
 -- the range that 16 bytes name
 abbrev pub range_of : List ℕ → Range
@@ -73,29 +91,29 @@ range_checks k after at r =
     ∷ check (not_above after r.first) RangesNotAscending at
     ∷ []
 
--- the range in 16 bytes at a place, after a value
-abbrev pub checked_range : Kind → Option ℕ → ℕ → List ℕ → Result Range Fault
-checked_range k after at bs = first_fault (range_checks k after at (range_of bs)) (Ok (range_of bs))
+-- the answer to a range at a place, after a value
+abbrev pub checked_range : Kind → Option ℕ → ℕ → Range → Result Range Fault
+checked_range k after at r = first_fault (range_checks k after at r) (Ok r)
 
--- as many ranges as are counted, each above the one before
-abbrev pub ranges : Kind → Option ℕ → ℕ → ℕ → List ℕ → Result (List Range) Fault
-ranges k after zero at bs = Ok []
-ranges k after (suc n) at bs =
-    and_then (checked_range k after at (take 16 bs)) (λ r. map_ok (λ rs. r ∷ rs) (ranges k (Some r.last) n (at + 16) (drop 16 bs)))
+-- ranges that stand from a place on, 16 bytes each, every one above the one before
+abbrev pub ranges : Kind → Option ℕ → ℕ → List Range → Result (List Range) Fault
+ranges k after at [] = Ok []
+ranges k after at (r ∷ rs) =
+    and_then (checked_range k after at r) (λ x. map_ok (λ xs. x ∷ xs) (ranges k (Some x.last) (at + 16) rs))
 
 -- whether they are such ranges
-abbrev pub checked_ranges : Kind → Option ℕ → ℕ → ℕ → List ℕ → Result (Unit {0}) Fault
-checked_ranges k after n at bs = map_ok (λ _. tt) (ranges k after n at bs)
-
--- what a request asks of a reader that serves a kind and expects x
-abbrev pub read_request : Kind → ExpectedRequest → List ℕ → Result (List Range) Fault
-read_request k x d = first_fault (header_checks k x d) (ranges k x.after (field d 12 4) 16 (drop 16 d))
+abbrev pub checked_ranges : Kind → Option ℕ → ℕ → List Range → Result (Unit {0}) Fault
+checked_ranges k after at rs = map_ok (λ _. tt) (ranges k after at rs)
 
 -- the ranges of some bytes, 16 bytes each
 abbrev pub ranges_from : ℕ → List ℕ → List Range
 ranges_from zero bs = []
 ranges_from (suc n) bs = range_of (take 16 bs) ∷ ranges_from n (drop 16 bs)
 
+-- what a request asks of a reader that serves a kind and expects x
+abbrev pub read_request : Kind → ExpectedRequest → List ℕ → Result (List Range) Fault
+read_request k x d = first_fault (header_checks k x d) (ranges k x.after 16 (ranges_from (field d 12 4) (drop 16 d)))
+
 -- what a cursor has still to hand out
 abbrev pub unread_ranges : Ranges → List Range
-unread_ranges r = ranges_from (length r.rest.now / 16) r.rest.now
+unread_ranges r = map range_of r.rest.now

@@ -1,6 +1,5 @@
 // A gap fill request: a header of 16 bytes, then the ranges that it asks for, 16 bytes each.
-ghost use Rattle.std.specs.Prelude.{◌≡◌};
-ghost use Rattle.wire.specs.declared.request.Kind.{Kind};
+ghost use Rattle.std.specs.Prelude.{ℕ};
 ghost use Rattle.wire.specs.Requests.{by_numbers, by_bytes};
 
 mod ranges;
@@ -28,26 +27,18 @@ pub struct Range {
     pub last: u64,
 }
 
-// What the ranges of a request are of: the code in the request's type field, and the lowest value that a range may begin with.
-#[derive(Clone, Copy, Debug)]
-pub struct Kind {
-    pub code: u8,
-    pub lowest: u64,
-}
-
 // A kind of ranges, as a type: a link serves one kind.
 pub trait RangeKind {
     // the code in the request's type field
     const TYPE: u8;
+
     // the lowest value that a range may begin with
     const LOWEST: u64;
 
     // the two constants, for the contracts
-    ghost kind: { Kind };
+    ghost TYPE: { ℕ };
 
-    // The two constants together.
-    fn kind() -> Kind
-        ensures { result ≡ kind };
+    ghost LOWEST: { ℕ };
 }
 
 // Ranges of message numbers, from 1 on.
@@ -58,14 +49,9 @@ impl RangeKind for ByNumbers {
 
     const LOWEST: u64 = 1;
 
-    ghost kind = { by_numbers };
+    ghost TYPE = { by_numbers.code };
 
-    fn kind() -> Kind {
-        Kind {
-            code: Self::TYPE,
-            lowest: Self::LOWEST,
-        }
-    }
+    ghost LOWEST = { by_numbers.lowest };
 }
 
 // Ranges of bytes of the session's stream, from 0 on.
@@ -76,14 +62,9 @@ impl RangeKind for ByBytes {
 
     const LOWEST: u64 = 0;
 
-    ghost kind = { by_bytes };
+    ghost TYPE = { by_bytes.code };
 
-    fn kind() -> Kind {
-        Kind {
-            code: Self::TYPE,
-            lowest: Self::LOWEST,
-        }
-    }
+    ghost LOWEST = { by_bytes.lowest };
 }
 
 // How a request comes. A request with no ranges asks a datagram server whether it is there; on a stream it makes no sense.

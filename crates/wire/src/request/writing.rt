@@ -1,44 +1,31 @@
 // Writing a gap fill request into a buffer.
-ghost use Rattle.std.specs.Prelude.{◌≡◌, ◌+◌, ◌*◌, ◌≤◌, not, length, take, IfOk, None};
+ghost use Rattle.std.specs.Prelude.{◌≡◌, ◌+◌, ◌*◌, ◌≤◌, not, length, take, IfOk};
 ghost use Rattle.wire.specs.Buffers.{left_by};
 ghost use Rattle.wire.specs.Fields.{overwritten};
-ghost use Rattle.wire.specs.RequestWriting.{request_header_bytes, range_bytes, ranges_bytes, request_bytes, unordered, ranges_past_limits, write_request, RequestReadsAs, RequestWrittenAsRead};
+ghost use Rattle.wire.specs.Requests.{kind_of};
+ghost use Rattle.wire.specs.RequestWriting.{request_header_bytes, range_bytes, ranges_bytes, request_bytes, ranges_past_limits, write_request, RequestReadsAs, RequestWrittenAsRead};
 ghost use Rattle.wire.specs.RoundTrip.{FitsAddress};
 
 use crate::address::Address;
 use crate::fault::{Fault, Refusal};
 use crate::field::{put, put_field};
 use crate::limits::VERSION;
-use crate::request::reading::check_range;
-use crate::request::{Kind, MAX_RANGES, RANGE_LEN, REQUEST_HEADER_LEN, Range, RangeKind};
-
-// Whether ranges are valid and ascend.
-fn ascend(ranges: &[Range], kind: Kind) -> bool
-    ensures { result ≡ not (unordered kind None ranges.now) }
-{
-    let mut after = None;
-    for range in ranges {
-        if check_range(*range, 0, kind, after).is_err() {
-            return false;
-        }
-        after = Some(range.last);
-    }
-    true
-}
+use crate::request::ranges::check_ranges;
+use crate::request::{MAX_RANGES, RANGE_LEN, REQUEST_HEADER_LEN, Range, RangeKind};
 
 // Whether a reader would accept a request for these ranges.
-fn within_limits(ranges: &[Range], kind: Kind) -> bool
-    ensures { result ≡ not (ranges_past_limits kind ranges.now) }
+fn within_limits<K: RangeKind>(ranges: &[Range]) -> bool
+    ensures { result ≡ not (ranges_past_limits (kind_of K.TYPE K.LOWEST) ranges.now) }
 {
-    ranges.len() <= MAX_RANGES && ascend(ranges, kind)
+    ranges.len() <= MAX_RANGES && check_ranges::<K, Range>(ranges, None).is_ok()
 }
 
-fn put_request_header(out: &mut [u8], kind: Kind, address: &Address, count: u32)
+fn put_request_header<K: RangeKind>(out: &mut [u8], address: &Address, count: u32)
     requires { 16 ≤ length out.old }
     ensures fits { FitsAddress address.now }
-    ensures after { out.new ≡ overwritten out.old 0 (request_header_bytes kind address.now count) }
+    ensures after { out.new ≡ overwritten out.old 0 (request_header_bytes (kind_of K.TYPE K.LOWEST) address.now count) }
 {
-    put(out, 0, &[VERSION, kind.code]);
+    put(out, 0, &[VERSION, K::TYPE]);
     put_field(out, 2, address.protocol);
     put_field(out, 4, address.channel);
     put_field(out, 8, address.session);
@@ -58,34 +45,9 @@ fn put_ranges(out: &mut [u8], ranges: &[Range])
     requires { 16 + 16 * length ranges.now ≤ length out.old }
     ensures { out.new ≡ overwritten out.old 16 (ranges_bytes ranges.now) }
 {
-    let mut at = REQUEST_HEADER_LEN;
-    for range in ranges {
-        put_range(out, at, *range);
-        at += RANGE_LEN;
+    for (i, range) in ranges.iter().enumerate() {
+        put_range(out, REQUEST_HEADER_LEN + RANGE_LEN * i, *range);
     }
-}
-
-fn write_of_kind(
-    out: &mut [u8],
-    kind: Kind,
-    address: &Address,
-    ranges: &[Range],
-) -> Result<usize, Fault>
-    ensures value { result ≡ write_request kind ranges.now out.old }
-    ensures after { out.new ≡ left_by result (request_bytes kind address.now ranges.now) out.old }
-    ensures reads_back { IfOk result (λ n. RequestReadsAs kind (take n out.new) address.now ranges.now) }
-    ensures as_read { RequestWrittenAsRead kind address.now ranges.now out.old out.new result }
-{
-    if !within_limits(ranges, kind) {
-        return Err(Refusal::SettingOutOfRange.at(0));
-    }
-    let end = REQUEST_HEADER_LEN + RANGE_LEN * ranges.len();
-    if out.len() < end {
-        return Err(Refusal::ShortBuffer.at(0));
-    }
-    put_request_header(out, kind, address, ranges.len() as u32);
-    put_ranges(out, ranges);
-    Ok(end)
 }
 
 // Writes a request for these ranges into the front of `out`, and answers how many bytes it has. More than 64 ranges, or such as no
@@ -95,10 +57,19 @@ pub fn write<K: RangeKind>(
     address: &Address,
     ranges: &[Range],
 ) -> Result<usize, Fault>
-    ensures value { result ≡ write_request K.RangeKind.kind ranges.now out.old }
-    ensures after { out.new ≡ left_by result (request_bytes K.RangeKind.kind address.now ranges.now) out.old }
-    ensures reads_back { IfOk result (λ n. RequestReadsAs K.RangeKind.kind (take n out.new) address.now ranges.now) }
-    ensures as_read { RequestWrittenAsRead K.RangeKind.kind address.now ranges.now out.old out.new result }
+    ensures value { result ≡ write_request (kind_of K.TYPE K.LOWEST) ranges.now out.old }
+    ensures after { out.new ≡ left_by result (request_bytes (kind_of K.TYPE K.LOWEST) address.now ranges.now) out.old }
+    ensures reads_back { IfOk result (λ n. RequestReadsAs (kind_of K.TYPE K.LOWEST) (take n out.new) address.now ranges.now) }
+    ensures as_read { RequestWrittenAsRead (kind_of K.TYPE K.LOWEST) address.now ranges.now out.old out.new result }
 {
-    write_of_kind(out, K::kind(), address, ranges)
+    if !within_limits::<K>(ranges) {
+        return Err(Refusal::SettingOutOfRange.at(0));
+    }
+    let end = REQUEST_HEADER_LEN + RANGE_LEN * ranges.len();
+    if out.len() < end {
+        return Err(Refusal::ShortBuffer.at(0));
+    }
+    put_request_header::<K>(out, address, ranges.len() as u32);
+    put_ranges(out, ranges);
+    Ok(end)
 }
