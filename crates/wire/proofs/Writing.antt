@@ -1,12 +1,15 @@
 -- Laws of writing a segment.
-use Rattle.std.proofs.Common.{◌≡◌, ℕ, ◌+◌, ◌-◌, ◌*◌, ◌<◌, ◌≤◌, cond, ◌||◌, ltb, List, [], ◌∷◌, ◌++◌, map, length, get_or, take, drop, Some, None, Option, sym, refl, ap, ◌∙◌, zero-add, arith, length-append, length-drop, w64, of_z, Bor}
+use Rattle.std.proofs.Common.{◌≡◌, ℕ, ◌+◌, ◌-◌, ◌*◌, ◌<◌, ◌≤◌, cond, ◌||◌, ltb, List, [], ◌∷◌, ◌++◌, length, get_or, take, drop, Some, None, Option, sym, refl, ap, ◌∙◌, zero-add, arith, length-append, length-drop, w64, of_z}
 use borrow.Rule.Slice.PartMut.{put_mid}
-use Rattle.std.proofs.lemmas.List.{append-nil, drop_all, drop-drop, drop_more, get_or-map, get_or_past, length-map, take_more, take_rest, take-append-drop, flat_map_more}
+use Rattle.std.proofs.lemmas.List.{append-nil, drop_all, drop-drop, drop_more, take_more, take_rest, take-append-drop, flat_map_more}
+use Rattle.std.proofs.lemmas.Option.{slice_get-get_or}
+use Rattle.std.specs.List.{slice_get}
+use Rattle.std.specs.Option.{option_map}
 use Rattle.std.proofs.lemmas.Bool.{cond-true, cond-false, le-leb, lt-ltb, le-ltb, or_left, or_right}
 use Rattle.wire.specs.declared.segment.Header.{Header}
 use Rattle.wire.specs.Fields.{bytes_of, overwritten}
 use Rattle.wire.specs.Sessions.{span}
-use Rattle.wire.specs.Writing.{header_bytes, block_bytes, payload_bytes, some_long, copied}
+use Rattle.wire.specs.Writing.{header_bytes, block_bytes, payload_bytes, some_long, copied, copied_from}
 use Rattle.wire.proofs.Fields.{overwritten_more, overwritten_before}
 use Rattle.wire.proofs.Sessions.{span_push}
 
@@ -41,16 +44,13 @@ module _ (d : List ℕ) (h : Header) (payload : ℕ) where
       let f32 = overwritten_more d o24 o32 a24 (bytes_of 8 h.first) 0 24 f24 e32 refl z in
       overwritten_more d o32 o40 a32 (bytes_of 8 (of_z w64 h.time)) 0 32 f32 e40 refl z
 
--- a copy of nothing
-pub copied_nothing : (m out : List ℕ) → m ≡ [] → out ≡ copied m out
-copied_nothing m out e = sym (ap (λ x. copied x out) e ∙ cond-true _ _ _ (le-leb 0 (length out) (omega arith)))
+-- a message that is there, by what a keeper of messages answers
+module _ (ms : List (List ℕ)) (i : ℕ) (h : i < length ms) where
+  pub size_is : (size : ℕ) → Some size ≡ option_map length (slice_get ms i) → size ≡ length (get_or ms i [])
+  size_is size e = let q : Some size ≡ Some (length (get_or ms i [])) = e ∙ ap (option_map length) (slice_get-get_or ms i [] h) in cc
 
--- the message in slice i, and past the last
-pub slice_at : (xs : List (Bor (List ℕ))) (i : ℕ) (r : Bor (List ℕ)) → i < length xs → get_or (map (λ x. x.now) xs) i [] ≡ (get_or xs i r).now
-slice_at xs i r h = get_or-map (λ x. x.now) xs i r [] h
-
-pub slice_past : (xs : List (Bor (List ℕ))) (i : ℕ) → length xs ≤ i → get_or (map (λ x. x.now) xs) i [] ≡ []
-slice_past xs i h = get_or_past (map (λ x. x.now) xs) i [] (let l = length-map xs (λ x. x.now) in omega arith)
+  pub copy_is : (out : List ℕ) → copied_from (slice_get ms i) out ≡ copied (get_or ms i []) out
+  copy_is out = ap (λ m. copied_from m out) (slice_get-get_or ms i [] h)
 
 -- a block: its data, and its length in front of it
 pub block_written : (d rest o m : List ℕ) (at size : ℕ) → size ≡ length m → rest ≡ copied m (take (length d - (at + 2)) (drop (at + 2) d))

@@ -1,5 +1,5 @@
 -- The bytes of a segment, and what its writer answers.
-use Rattle.std.specs.Prelude.{ℕ, ◌+◌, Bool, false, cond, not, ◌||◌, List, [], ◌∷◌, ◌++◌, length, Some, None, Ok, Err, Option, Result, ◌==◌, nat_le, nat_lt}
+use Rattle.std.specs.Prelude.{ℕ, ◌+◌, Bool, false, cond, not, ◌||◌, List, [], ◌∷◌, ◌++◌, length, Some, None, Ok, Err, Option, Result, ◌==◌, nat_le, nat_lt, slice_index_or}
 use Rattle.std.specs.Int.{w64}
 use Rattle.std.proofs.Common.{of_z}
 use Rattle.std.specs.List.{flat_map}
@@ -66,3 +66,12 @@ write_segment s out = write_answer (past_limits s) (40 + span s.messages) out
 -- what a copy of a message leaves: the message and what stood behind it; all that stood there, where it does not fit
 abbrev pub copied : List ℕ → List ℕ → List ℕ
 copied m out = cond (nat_le (length m) (length out)) (overwritten out 0 m) out
+
+-- the same of a message that may be missing, where all stays
+abbrev pub copied_from : Option (List ℕ) → List ℕ → List ℕ
+copied_from None out = out
+copied_from (Some m) out = copied m out
+
+-- the data of message i, counted from 0
+abbrev pub body_at : List (List ℕ) → ℕ → List ℕ
+body_at ms i = slice_index_or ms i []

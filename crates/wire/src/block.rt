@@ -10,17 +10,13 @@ use crate::limits::MAX_MESSAGE;
 pub fn first_block(bytes: &[u8], place: u64) -> Result<(&[u8], &[u8]), Fault>
     ensures { map_ok (λ p. (p.0.now, p.1.now)) result ≡ first_block place bytes.now }
 {
-    let Some((length, rest)) = bytes.split_first_chunk::<2>() else {
-        return Err(Refusal::BlocksDisagree.at(place));
-    };
+    let short = Refusal::BlocksDisagree.at(place);
+    let (length, rest) = bytes.split_first_chunk().ok_or(short)?;
     let length = usize::from(u16::from_le_bytes(*length));
     if length > MAX_MESSAGE {
         return Err(Refusal::LongBlock.at(place));
     }
-    match rest.split_at_checked(length) {
-        Some(parts) => Ok(parts),
-        None => Err(Refusal::BlocksDisagree.at(place)),
-    }
+    rest.split_at_checked(length).ok_or(short)
 }
 
 // Whether `bytes`, which begin at `place`, are `count` blocks and nothing more.

@@ -1,7 +1,7 @@
 // The messages of a segment, which borrow the datagram, and a cursor over them.
-ghost use Rattle.std.specs.Prelude.{◌≡◌, [], ◌∷◌, length, MatchOption};
+ghost use Rattle.std.specs.Prelude.{◌≡◌, IfNone};
 ghost use Rattle.wire.specs.Cursor.{unread, placed};
-ghost use Rattle.std.specs.Iterator.{at_most};
+ghost use Rattle.std.specs.Iterator.{YieldsFirstBy, item_count};
 
 use crate::block::first_block;
 
@@ -45,17 +45,15 @@ impl<'a> Messages<'a> {
 impl<'a> Iterator for Messages<'a> {
     type Item = Message<'a>;
 
-    ghost next_gives = { λ s r t. MatchOption r ((unread s ≡ []) × (t ≡ s)) (λ m. unread s ≡ placed m ∷ unread t) };
+    ghost next_gives = { λ s r t. YieldsFirstBy placed unread s r t × IfNone r (t ≡ s) };
 
-    ghost remaining = { λ s. at_most (length (unread s)) };
+    ghost remaining = { item_count unread };
 
     fn next(&mut self) -> Option<Message<'a>> {
         if self.left == 0 {
             return None;
         }
-        let Ok((body, rest)) = first_block(self.rest, self.place) else {
-            return None;
-        };
+        let (body, rest) = first_block(self.rest, self.place).ok()?;
         let message = Message {
             number: self.number,
             place: self.place,

@@ -1,10 +1,11 @@
 // Writing a segment into a buffer.
-ghost use Rattle.std.specs.Prelude.{◌≡◌, ℕ, ◌+◌, ◌<◌, ◌≤◌, false, List, [], map, length, take, IfOk, slice_index_or};
+ghost use Rattle.std.specs.Prelude.{◌≡◌, ℕ, ◌+◌, ◌<◌, ◌≤◌, false, List, map, length, take, IfOk, slice_get};
+ghost use Rattle.std.specs.Option.{option_map};
 ghost use Rattle.wire.specs.Buffers.{left_by};
 ghost use Rattle.wire.specs.Fields.{overwritten};
 ghost use Rattle.wire.specs.RoundTrip.{FitsHeader, ReadsAs, WrittenAsRead};
 ghost use Rattle.wire.specs.Sessions.{span};
-ghost use Rattle.wire.specs.Writing.{header_bytes, block_bytes, payload_bytes, segment_bytes, segment_with, too_large, measured, checked_limits, write_segment, copied};
+ghost use Rattle.wire.specs.Writing.{header_bytes, block_bytes, payload_bytes, segment_bytes, segment_with, too_large, measured, checked_limits, write_segment, copied, copied_from, body_at};
 
 use crate::fault::{Fault, Refusal};
 use crate::field::{put, put_field};
@@ -20,14 +21,14 @@ pub trait Bodies {
     fn count(&self) -> usize
         ensures { result ≡ length (messages self.now) };
 
-    // The length of message `index`, counted from 0; 0 where there is none.
-    fn size(&self, index: usize) -> usize
-        ensures { result ≡ length (slice_index_or (messages self.now) index []) };
+    // The length of message `index`, counted from 0.
+    fn size(&self, index: usize) -> Option<usize>
+        ensures { result ≡ option_map length (slice_get (messages self.now) index) };
 
     // Copies message `index` over the front of `out`, where it fits, and answers its length.
-    fn copy(&self, index: usize, out: &mut [u8]) -> usize
-        ensures value { result ≡ length (slice_index_or (messages self.now) index []) }
-        ensures after { out.new ≡ copied (slice_index_or (messages self.now) index []) out.old };
+    fn copy(&self, index: usize, out: &mut [u8]) -> Option<usize>
+        ensures value { result ≡ option_map length (slice_get (messages self.now) index) }
+        ensures after { out.new ≡ copied_from (slice_get (messages self.now) index) out.old };
 }
 
 // Copies the data of a message over the front of `out`, where it fits.
@@ -47,21 +48,15 @@ impl<'a, 'b> Bodies for &'a [&'b [u8]] {
         self.len()
     }
 
-    fn size(&self, index: usize) -> usize {
-        if index < self.len() {
-            self[index].len()
-        } else {
-            0
-        }
+    fn size(&self, index: usize) -> Option<usize> {
+        let body = self.get(index)?;
+        Some(body.len())
     }
 
-    fn copy(&self, index: usize, out: &mut [u8]) -> usize {
-        if index >= self.len() {
-            return 0;
-        }
-        let body = self[index];
+    fn copy(&self, index: usize, out: &mut [u8]) -> Option<usize> {
+        let body = self.get(index)?;
         copy_body(body, out);
-        body.len()
+        Some(body.len())
     }
 }
 
@@ -83,19 +78,23 @@ fn put_header(out: &mut [u8], header: &Header, payload: u16)
 
 // Writes the block of message `index` at `at`, and answers where it ends.
 fn put_block<B: Bodies>(out: &mut [u8], at: usize, bodies: &B, index: usize) -> usize
-    requires { (length (slice_index_or (B.Bodies.messages bodies.now) index []) < 65536) × (at + (2 + length (slice_index_or (B.Bodies.messages bodies.now) index [])) ≤ length out.old) }
-    ensures value { result ≡ at + (2 + length (slice_index_or (B.Bodies.messages bodies.now) index [])) }
-    ensures after { out.new ≡ overwritten out.old at (block_bytes (slice_index_or (B.Bodies.messages bodies.now) index [])) }
+    requires there { index < length (B.messages bodies.now) }
+    requires short { length (body_at (B.messages bodies.now) index) < 65536 }
+    requires room { at + (2 + length (body_at (B.messages bodies.now) index)) ≤ length out.old }
+    ensures value { result ≡ at + (2 + length (body_at (B.messages bodies.now) index)) }
+    ensures after { out.new ≡ overwritten out.old at (block_bytes (body_at (B.messages bodies.now) index)) }
 {
-    let size = bodies.copy(index, &mut out[at + 2..]);
+    let size = bodies.copy(index, &mut out[at + 2..]).unwrap();
     put_field(out, at, size as u16);
     at + 2 + size
 }
 
 // Writes the blocks of all messages behind the header.
+// The loop counts, since the messages are handed out by number: there is no slice and no iterator to go over.
 fn put_blocks<B: Bodies>(out: &mut [u8], bodies: &B)
-    requires { (too_large (B.Bodies.messages bodies.now) ≡ false) × (40 + span (B.Bodies.messages bodies.now) ≤ length out.old) }
-    ensures { out.new ≡ overwritten out.old 40 (payload_bytes (B.Bodies.messages bodies.now)) }
+    requires carried { too_large (B.messages bodies.now) ≡ false }
+    requires room { 40 + span (B.messages bodies.now) ≤ length out.old }
+    ensures { out.new ≡ overwritten out.old 40 (payload_bytes (B.messages bodies.now)) }
 {
     let mut at = HEADER_LEN;
     for index in 0..bodies.count() {
@@ -103,13 +102,13 @@ fn put_blocks<B: Bodies>(out: &mut [u8], bodies: &B)
     }
 }
 
-// The length of the payload, where a datagram can carry the messages.
+// The length of the payload, where a datagram can carry the messages. The loop counts for the same reason.
 fn measure<B: Bodies>(bodies: &B) -> Option<u16>
-    ensures { result ≡ measured (B.Bodies.messages bodies.now) }
+    ensures { result ≡ measured (B.messages bodies.now) }
 {
     let mut payload = 0;
     for index in 0..bodies.count() {
-        let size = bodies.size(index);
+        let size = bodies.size(index).unwrap();
         if size > MAX_MESSAGE {
             return None;
         }
@@ -123,7 +122,7 @@ fn measure<B: Bodies>(bodies: &B) -> Option<u16>
 
 // The length of the payload of a segment within the limits.
 fn check_limits<B: Bodies>(header: &Header, bodies: &B) -> Result<u16, Fault>
-    ensures { result ≡ checked_limits (segment_with header.now (B.Bodies.messages bodies.now)) }
+    ensures { result ≡ checked_limits (segment_with header.now (B.messages bodies.now)) }
 {
     let count = header.count;
     if bodies.count() != usize::from(count)
@@ -141,10 +140,10 @@ fn check_limits<B: Bodies>(header: &Header, bodies: &B) -> Result<u16, Fault>
 // Writes a segment with this header and these messages into the front of `out`, and answers how many bytes it has.
 // A segment past the limits, which no reader would accept, is refused, and so is one for which there is no room; nothing is then written.
 pub fn write<B: Bodies>(out: &mut [u8], header: &Header, bodies: &B) -> Result<usize, Fault>
-    ensures value { result ≡ write_segment (segment_with header.now (B.Bodies.messages bodies.now)) out.old }
-    ensures after { out.new ≡ left_by result (segment_bytes (segment_with header.now (B.Bodies.messages bodies.now))) out.old }
-    ensures reads_back { IfOk result (λ n. ReadsAs (take n out.new) (segment_with header.now (B.Bodies.messages bodies.now))) }
-    ensures as_read { WrittenAsRead (segment_with header.now (B.Bodies.messages bodies.now)) out.old out.new result }
+    ensures value { result ≡ write_segment (segment_with header.now (B.messages bodies.now)) out.old }
+    ensures after { out.new ≡ left_by result (segment_bytes (segment_with header.now (B.messages bodies.now))) out.old }
+    ensures reads_back { IfOk result (λ n. ReadsAs (take n out.new) (segment_with header.now (B.messages bodies.now))) }
+    ensures as_read { WrittenAsRead (segment_with header.now (B.messages bodies.now)) out.old out.new result }
 {
     let payload = check_limits(header, bodies)?;
     let end = HEADER_LEN + usize::from(payload);
