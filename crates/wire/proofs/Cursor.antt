@@ -1,5 +1,5 @@
 -- Laws of the cursor: one message more, and none.
-use Rattle.std.proofs.Common.{◌≡◌, ℕ, zero, suc, ◌+◌, ◌-◌, ◌<◌, List, [], ◌∷◌, length, Ok, Err, Result, refl, ap, ◌∙◌, arith}
+use Rattle.std.proofs.Common.{◌≡◌, ℕ, zero, suc, ◌+◌, ◌-◌, ◌<◌, List, ◌∷◌, length, Ok, Result, ap, ◌∙◌, arith}
 use Rattle.wire.specs.declared.fault.Fault.{Fault}
 use Rattle.wire.specs.Blocks.{first_block}
 use Rattle.wire.specs.Cursor.{Placed, placed_at, wrap, if_ok, unread_from}
@@ -14,7 +14,3 @@ unread_more zero n at bs body rest h e = absurd (omega arith)
 unread_more (suc left) n at bs body rest h e =
     let l : left ≡ suc left - 1 = omega arith in
     ap (after left n at) e ∙ ap (λ k. placed_at n at body ∷ unread_from k (wrap (n + 1)) (wrap (at + (2 + length body))) rest) l
-
-pub unread_none : (left n at : ℕ) (bs : List ℕ) (f : Fault) → first_block at bs ≡ Err f → unread_from left n at bs ≡ []
-unread_none zero n at bs f e = refl
-unread_none (suc left) n at bs f e = ap (after left n at) e

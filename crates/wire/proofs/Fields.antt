@@ -1,14 +1,9 @@
 -- Laws of fields: what is written reads back, what is read writes the same bytes, and writes one behind the other.
 use Rattle.std.proofs.Common.{◌≡◌, ℕ, zero, suc, ◌+◌, ◌-◌, ◌*◌, ◌/◌, ◌%◌, ◌^◌, ◌<◌, ◌≤◌, List, [], ◌∷◌, ◌++◌, length, take, drop, sym, refl, ap, ◌∙◌, subst, append_assoc, pow-suc, arith, length-append, length-drop}
 use lib.Seq.{paste}
-use borrow.Rule.Slice.PartMut.{put_mid}
 use Rattle.std.proofs.lemmas.List.Edits.{paste_all, paste-paste}
 use Rattle.std.proofs.lemmas.List.{drop-drop, drop-take, drop_at, take_at, take-take, take-append-le, take-append-drop, length-take-le}
 use Rattle.wire.specs.Fields.{le, bytes_of, field, overwritten, Octets}
-
-pub length-bytes_of : (width n : ℕ) → length (bytes_of width n) ≡ width
-length-bytes_of zero n = refl
-length-bytes_of (suc width) n = ap suc (length-bytes_of width (n / 256))
 
 -- what is written reads back
 pub le-bytes_of : (width n : ℕ) → n < 256 ^ width → le (bytes_of width n) ≡ n
@@ -44,11 +39,6 @@ pub Octets-drop : (n : ℕ) (bs : List ℕ) → Octets bs → Octets (drop n bs)
 Octets-drop zero bs o = o
 Octets-drop (suc n) [] o = tt
 Octets-drop (suc n) (b ∷ bs) o = Octets-drop n bs o.1
-
-pub overwritten_from_part : (d now bs : List ℕ) (at k : ℕ) → now ≡ bs → k ≡ length bs → put_mid at k d now ≡ overwritten d at bs
-overwritten_from_part d now bs at k e h =
-    let p : drop k (drop at d) ≡ drop (at + length bs) d = drop-drop k at d ∙ ap (λ n. drop (at + n) d) h in
-    λ i. take at d ++ (e i ++ p i)
 
 as_paste : (d bs : List ℕ) (at : ℕ) → paste d at bs (length bs) ≡ overwritten d at bs
 as_paste d bs at = paste_all d at bs (length bs) refl
