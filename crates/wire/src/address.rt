@@ -15,6 +15,7 @@ pub struct Address {
 }
 
 // What a reader accepts. Where `session` is `None`, any session will do.
+// Not one type with `Address`, generic in the session: each use would then name the session's type, and say no more.
 #[derive(Clone, Copy, Debug, PartialEq, Eq)]
 pub struct Expected {
     pub protocol: u16,

@@ -1,8 +1,9 @@
 // Little-endian fields of a datagram.
+// Functions of some bytes and a place in them, and no writer that counts its place: at each call the place is a number of the format.
 ghost use Rattle.std.specs.Prelude.{◌≡◌, ℕ, ◌+◌, ◌≤◌, length, take, drop};
 ghost use Rattle.wire.specs.Fields.{le, field, bytes_of, overwritten};
 
-// An unsigned number of `N` bytes: a Byte, a Short, an Integer or a Long.
+// An unsigned number of `N` bytes: a Short, an Integer, or the bits of a Long.
 pub(crate) trait Field<const N: usize>: Copy {
     // the number
     ghost number: { Self → ℕ };
@@ -52,7 +53,7 @@ impl Field<8> for u64 {
     }
 }
 
-// The field at `at`. The bits of a negative Long read as a number above the largest Long.
+// The field at `at`. A negative Long reads as a number above the largest Long.
 pub(crate) fn field_at<const N: usize, T: Field<N>>(bytes: &[u8], at: usize) -> T
     requires { at + N ≤ length bytes.now }
     ensures { T.number result ≡ field bytes.now at N }

@@ -25,6 +25,7 @@ pub struct Header {
 }
 
 // What a segment carries: nothing, or messages, which borrow the payload part of the datagram.
+// No `Option`: by a rule of the project the two cases have names.
 #[derive(Clone, Copy, Debug)]
 pub enum Content<'a> {
     Heartbeat,
