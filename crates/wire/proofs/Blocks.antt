@@ -1,5 +1,5 @@
 -- Laws of blocks.
-use Rattle.std.proofs.Common.{◌≡◌, ℕ, zero, suc, ◌+◌, ◌-◌, ◌<◌, ◌≤◌, not, eqb, ltb, List, [], ◌∷◌, length, take, drop, Ok, Err, Result, sym, ap, ◌∙◌, arith, length-drop}
+use Rattle.std.proofs.Common.{◌≡◌, ℕ, zero, suc, ◌+◌, ◌-◌, ◌<◌, ◌≤◌, ltb, List, ◌∷◌, length, take, drop, Ok, Err, Result, sym, ap, ◌∙◌, arith, length-drop}
 use Rattle.std.proofs.lemmas.List.{length-take-le}
 use Rattle.std.proofs.lemmas.Bool.{cond_both, ltb-true, ltb-false, le-ltb, cond-false}
 use Rattle.wire.specs.declared.fault.Fault.{Fault}
@@ -65,26 +65,3 @@ pub checked_err : (n at : ℕ) (bs : List ℕ) (f : Fault) → 0 < n → Err f �
 checked_err zero at bs f h e = absurd (omega arith)
 checked_err (suc n) at bs f h e =
     ap (λ r. map_ok {Y = Unit {0}} (λ _. tt) (after n at r)) e
-
--- where blocks stand matters to no answer but a fault
-pub checked_anywhere : (n at to : ℕ) (bs : List ℕ) → checked_blocks n at bs ≡ Ok tt → checked_blocks n to bs ≡ Ok tt
-checked_anywhere zero at to bs =
-    cond_both (not (eqb (length bs) 0)) (Err (fault BlocksDisagree at)) (Ok [])
-    (λ (r : Result (List (List ℕ)) Fault). map_ok {Y = Unit {0}} (λ _. tt) r ≡ Ok tt → checked_blocks zero to bs ≡ Ok tt)
-    (λ _ e. ok_not_err tt (fault BlocksDisagree at) (sym e)) (λ t _. ap (map_ok {Y = Unit {0}} (λ _. tt)) (cond-false _ _ _ t))
-checked_anywhere (suc n) at to bs =
-    let body = take (field bs 0 2) (drop 2 bs) in
-    let rest = drop (field bs 0 2) (drop 2 bs) in
-    first_block_cases at bs (λ r. map_ok {Y = Unit {0}} (λ _. tt) (after n at r) ≡ Ok tt → checked_blocks (suc n) to bs ≡ Ok tt)
-    (λ _ e. ok_not_err tt _ (sym e)) (λ _ _ e. ok_not_err tt _ (sym e)) (λ _ _ _ e. ok_not_err tt _ (sym e))
-    (λ two short fits e.
-    let cons : List (List ℕ) → List (List ℕ) = λ ms. body ∷ ms in
-    let others = checked_anywhere n (at + (2 + length body)) (to + (2 + length body)) rest (sym (forget cons (blocks n (at + (2 + length body)) rest)) ∙ e) in
-    ap (λ r. map_ok {Y = Unit {0}} (λ _. tt) (after n to r)) (first_block_good to bs two short fits)
-    ∙ (forget cons (blocks n (to + (2 + length body)) rest) ∙ others))
-
--- whole blocks, once the first was taken
-pub whole_after : (n place : ℕ) (bs body rest : List ℕ) → 0 < n → Ok (body, rest) ≡ first_block place bs → checked_blocks n 0 bs ≡ Ok tt
-    → checked_blocks (n - 1) 0 rest ≡ Ok tt
-whole_after n place bs body rest h e w =
-    checked_anywhere (n - 1) (place + (2 + length body)) 0 rest (sym (checked_more n place bs body rest h e) ∙ checked_anywhere n 0 place bs w)

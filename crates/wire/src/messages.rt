@@ -1,6 +1,7 @@
 // The messages of a segment, which borrow the datagram, and a cursor over them.
-ghost use Rattle.std.specs.Prelude.{◌≡◌, ◌+◌, ◌^◌, ◌<◌, length, Ok};
-ghost use Rattle.wire.specs.Blocks.{checked_blocks};
+ghost use Rattle.std.specs.Prelude.{◌≡◌, IfNone};
+ghost use Rattle.wire.specs.Cursor.{unread, placed};
+ghost use Rattle.std.specs.Iterator.{YieldsFirstBy, item_count};
 
 use crate::block::first_block;
 
@@ -22,16 +23,10 @@ pub struct Messages<'a> {
     // the number and the place of the first of them
     number: u64,
     place: u64,
-    ghost whole: { checked_blocks left 0 rest.now ≡ Ok tt },
-    ghost counted: { number + left < 2 ^ 64 },
-    ghost placed: { place + length rest.now < 2 ^ 64 },
 }
 
 impl<'a> Messages<'a> {
     pub(crate) fn new(rest: &'a [u8], left: u16, number: u64, place: u64) -> Messages<'a>
-        requires whole { checked_blocks left 0 rest.now ≡ Ok tt }
-        requires counted { number + left < 2 ^ 64 }
-        requires placed { place + length rest.now < 2 ^ 64 }
         ensures rest { result.rest.now ≡ rest.now }
         ensures left { result.left ≡ left }
         ensures number { result.number ≡ number }
@@ -50,10 +45,6 @@ impl<'a> Messages<'a> {
 impl<'a> Iterator for Messages<'a> {
     type Item = Message<'a>;
 
-    ghost use Rattle.std.specs.Prelude.{◌≡◌, IfNone};
-    ghost use Rattle.std.specs.Iterator.{YieldsFirstBy, item_count};
-    ghost use Rattle.wire.specs.Cursor.{unread, placed};
-
     ghost next_gives = { λ s r t. YieldsFirstBy placed unread s r t × IfNone r (t ≡ s) };
 
     ghost remaining = { item_count unread };
@@ -62,7 +53,7 @@ impl<'a> Iterator for Messages<'a> {
         if self.left == 0 {
             return None;
         }
-        let (body, rest) = first_block(self.rest, self.place).unwrap();
+        let (body, rest) = first_block(self.rest, self.place).ok()?;
         let message = Message {
             number: self.number,
             place: self.place,
@@ -70,8 +61,8 @@ impl<'a> Iterator for Messages<'a> {
         };
         self.rest = rest;
         self.left -= 1;
-        self.number += 1;
-        self.place += 2 + body.len() as u64;
+        self.number = self.number.wrapping_add(1);
+        self.place = self.place.wrapping_add(2 + body.len() as u64);
         Some(message)
     }
 }

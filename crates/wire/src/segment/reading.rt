@@ -1,6 +1,5 @@
 // Reading a segment out of a datagram.
-ghost use Rattle.std.specs.Prelude.{◌≡◌, ◌+◌, ◌^◌, ◌<◌, length, IfOk, Ok};
-ghost use Rattle.wire.specs.Blocks.{checked_blocks};
+ghost use Rattle.std.specs.Prelude.{◌≡◌, IfOk, Ok};
 ghost use Rattle.wire.specs.Cursor.{unread};
 ghost use Rattle.wire.specs.Outcomes.{map_ok, first_fault};
 ghost use Rattle.wire.specs.ReadingLaw.{ByLaw};
@@ -82,9 +81,6 @@ fn read_header(header: &[u8; HEADER_LEN]) -> Header
 
 // What a payload carries whose blocks were checked.
 fn read_content<'a>(header: &Header, payload: &'a [u8]) -> Content<'a>
-    requires whole { checked_blocks header.now.count 40 payload.now ≡ Ok tt }
-    requires counted { header.now.first + header.now.count < 2 ^ 64 }
-    requires placed { header.now.offset + length payload.now < 2 ^ 64 }
     ensures { handed result ≡ content_unread header.now payload.now }
 {
     if header.count == 0 {
