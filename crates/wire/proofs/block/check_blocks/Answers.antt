@@ -1,14 +1,7 @@
-use Rattle.std.proofs.Common.{◌≡◌, ◌+◌, ◌-◌, length, sym, ap, ◌∙◌, arith}
-use Rattle.std.proofs.lemmas.Result.{err_from_is_err_and}
+use Rattle.std.proofs.Common.{◌≡◌, ◌+◌, ◌-◌, length, ap, ◌∙◌, arith}
 use Rattle.wire.specs.Blocks.{checked_blocks}
-use Rattle.wire.proofs.Blocks.{checked_err, checked_more, block_and_rest}
+use Rattle.wire.proofs.Blocks.{checked_more, block_and_rest}
 use Rattle.wire.proofs.block.check_blocks.Goals as goal
-
-pub returns-in_err-body : goal.returns-in_err-body
-returns-in_err-body c =
-    let p = err_from_is_err_and c.from_residual.result c.from_residual.ensures.1 in
-    let e = checked_err (c.args.count - c.loop.counter) c.loop.place c.loop.rest.now c.in_err-body.field-0.0 (omega arith) c.in_err-body.ensures in
-    rw (p.1, p.2) (e ∙ sym c.loop.invariant.1)
 
 pub loop-preserved : goal.loop-preserved
 loop-preserved c =
