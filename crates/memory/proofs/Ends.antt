@@ -1,10 +1,9 @@
 -- Messages between ends: how many, where each stands, and what one more message changes.
-use Rattle.std.proofs.Common.{◌≡◌, ℕ, zero, suc, ◌+◌, ◌-◌, ◌<◌, ◌≤◌, true, eqb, leb, List, [], ◌∷◌, ◌++◌, length, take, drop, slice_get, get_or, sym, refl, ap, ◌∙◌, arith, length-drop}
+use Rattle.std.proofs.Common.{◌≡◌, ℕ, zero, suc, ◌+◌, ◌-◌, ◌<◌, ◌≤◌, true, List, [], ◌∷◌, ◌++◌, length, take, drop, slice_get, get_or, refl, ap, arith}
 use Rattle.std.specs.Option.{option_map, unwrap_or}
 use Rattle.std.proofs.lemmas.List.{drop-take, take-take, length-take-le, take_all, take_min, with_items_is}
 use Rattle.std.proofs.lemmas.Option.{gets}
 use Rattle.std.proofs.lemmas.Grind.{common_steps}
-use Rattle.std.proofs.lemmas.Bool.{and_parts, and_from, leb-true, le-leb, eqb-true, eq-eqb}
 use Rattle.memory.specs.Ends.{rise, last_end, between}
 use Rattle.memory.specs.MessageBuffers.{data_bytes}
 
@@ -14,12 +13,8 @@ length_between from (e ∷ es) bs = ap suc (length_between e es bs)
 
 -- the first message does not begin after the last one ends
 pub rise_low : (from : ℕ) (es : List ℕ) (last : ℕ) → rise from es last ≡ true → from ≤ last
-rise_low from [] last r = let e = eqb-true from last r in omega arith
-rise_low from (e ∷ es) last r =
-    let p = and_parts (leb from e) (rise e es last) r in
-    let here = leb-true from e p.0 in
-    let there = rise_low e es last p.1 in
-    omega arith
+rise_low from [] last r = grind (arith, common_steps)
+rise_low from (e ∷ es) last r = grind (arith, common_steps, rise_low e es last)
 
 -- the last end, as code reads it
 pub last_get : (from : ℕ) (es : List ℕ) → unwrap_or (slice_get es (length es - 1)) from ≡ last_end from es
@@ -34,28 +29,26 @@ last_end_push from (e ∷ es) next = last_end_push e es next
 
 pub rise_push : (from : ℕ) (es : List ℕ) (next : ℕ) → rise from es (last_end from es) ≡ true → last_end from es ≤ next
     → rise from (es ++ next ∷ []) (last_end from (es ++ next ∷ [])) ≡ true
-rise_push from [] next r h = and_from (leb from next) (eqb next next) (le-leb from next h) (eq-eqb next next refl)
-rise_push from (e ∷ es) next r h =
-    let p = and_parts (leb from e) (rise e es (last_end e es)) r in
-    and_from (leb from e) (rise e (es ++ next ∷ []) (last_end e (es ++ next ∷ []))) p.0 (rise_push e es next p.1 h)
+rise_push from [] next r h = grind (arith, common_steps)
+rise_push from (e ∷ es) next r h = grind (arith, common_steps, rise_push e es next)
 
 -- a message begins no later than all data ends
 pub last_within : (from : ℕ) (es : List ℕ) (last i : ℕ) → rise from es last ≡ true → last_end from (take i es) ≤ last
 last_within from es last zero r = rise_low from es last r
 last_within from [] last (suc i) r = rise_low from [] last r
-last_within from (e ∷ es) last (suc i) r = last_within e es last i (and_parts (leb from e) (rise e es last) r).1
+last_within from (e ∷ es) last (suc i) r = grind (arith, common_steps, last_within e es last i)
 
 -- a message begins no later than it ends
 pub in_order : (from : ℕ) (es : List ℕ) (last i d : ℕ) → rise from es last ≡ true → i < length es → last_end from (take i es) ≤ get_or es i d
 in_order from [] last i d r h = absurd (omega arith)
-in_order from (e ∷ es) last zero d r h = leb-true from e (and_parts (leb from e) (rise e es last) r).0
-in_order from (e ∷ es) last (suc i) d r h = in_order e es last i d (and_parts (leb from e) (rise e es last) r).1 (omega arith)
+in_order from (e ∷ es) last zero d r h = grind (arith, common_steps)
+in_order from (e ∷ es) last (suc i) d r h = grind (arith, common_steps, in_order e es last i d)
 
 -- and ends no later than all data does
 pub in_time : (from : ℕ) (es : List ℕ) (last i d : ℕ) → rise from es last ≡ true → i < length es → get_or es i d ≤ last
 in_time from [] last i d r h = absurd (omega arith)
-in_time from (e ∷ es) last zero d r h = rise_low e es last (and_parts (leb from e) (rise e es last) r).1
-in_time from (e ∷ es) last (suc i) d r h = in_time e es last i d (and_parts (leb from e) (rise e es last) r).1 (omega arith)
+in_time from (e ∷ es) last zero d r h = grind (arith, common_steps, rise_low e es last)
+in_time from (e ∷ es) last (suc i) d r h = grind (arith, common_steps, in_time e es last i d)
 
 -- a message is what stands between its end and the one before
 pub get_between : (from : ℕ) (es bs : List ℕ) (i : ℕ)
@@ -69,50 +62,35 @@ pub data_before : (from : ℕ) (es bs : List ℕ) (last i : ℕ) → rise from e
     → from + data_bytes (take i (between from es bs)) ≡ last_end from (take i es)
 data_before from es bs last zero r h = omega arith
 data_before from [] bs last (suc i) r h = omega arith
-data_before from (e ∷ es) bs last (suc i) r h =
-    let p = and_parts (leb from e) (rise e es last) r in
-    let low = leb-true from e p.0 in
-    let high = rise_low e es last p.1 in
-    let left = length-drop from bs in
-    let size : length (take (e - from) (drop from bs)) ≡ e - from = length-take-le (e - from) (drop from bs) (omega arith) in
-    let rest = data_before e es bs last i p.1 h in
-    let sum : from + (length (take (e - from) (drop from bs)) + data_bytes (take i (between e es bs))) ≡ e + data_bytes (take i (between e es bs)) = omega arith in
-    sum ∙ rest
+data_before from (e ∷ es) bs last (suc i) r h = grind (arith, common_steps, rise_low e es last, data_before e es bs last i)
 
 -- a part of the first bytes is the same where these are
 part : (from k : ℕ) (bs cs : List ℕ) (last : ℕ) → from + k ≤ last → take last bs ≡ take last cs
     → take k (drop from bs) ≡ take k (drop from cs)
-part from k bs cs last h same =
-    let short : (xs : List ℕ) → take (from + k) (take last xs) ≡ take (from + k) xs = λ xs. take-take (from + k) last xs h in
-    sym (drop-take from k bs)
-    ∙ ap (drop from) (sym (short bs) ∙ (ap (take (from + k)) same ∙ short cs))
-    ∙ drop-take from k cs
+part from k bs cs last h same = grind (arith, drop-take from k bs, drop-take from k cs, take-take (from + k) last bs h, take-take (from + k) last cs h)
 
 -- only the bytes before the last end matter
 pub between_same : (from : ℕ) (es bs cs : List ℕ) (last : ℕ) → rise from es last ≡ true → take last bs ≡ take last cs
     → between from es bs ≡ between from es cs
 between_same from [] bs cs last r same = refl
-between_same from (e ∷ es) bs cs last r same =
-    let p = and_parts (leb from e) (rise e es last) r in
-    let low = leb-true from e p.0 in
-    let high = rise_low e es last p.1 in
-    λ i. part from (e - from) bs cs last (omega arith) same i ∷ between_same e es bs cs last p.1 same i
+between_same from (e ∷ es) bs cs last r same = grind (arith, common_steps, rise_low e es last, part from (e - from) bs cs last, between_same e es bs cs last)
 
 -- one more message, behind the last one
 pub between_push : (from : ℕ) (es bs : List ℕ) (next : ℕ)
     → between from (es ++ next ∷ []) bs ≡ between from es bs ++ take (next - last_end from es) (drop (last_end from es) bs) ∷ []
 between_push from [] bs next = refl
-between_push from (e ∷ es) bs next =
-    ap (λ (x : List (List ℕ)). take (e - from) (drop from bs) ∷ x) (between_push e es bs next)
+between_push from (e ∷ es) bs next = grind (arith, common_steps, between_push e es bs next)
 
 -- the messages once a body was written behind the last one, and its end noted
 pub between_written : (es bs body rest : List ℕ) (used : ℕ) → rise 0 es (last_end 0 es) ≡ true → used ≡ last_end 0 es → used ≤ length bs
     → between 0 (es ++ (used + length body) ∷ []) (take used bs ++ (body ++ rest)) ≡ between 0 es bs ++ body ∷ []
 between_written es bs body rest used r e h =
-    let cs : List ℕ = take used bs ++ (body ++ rest) in
-    let same : take (last_end 0 es) cs ≡ take (last_end 0 es) bs = grind (arith, common_steps) in
-    let written : take (used + length body - last_end 0 es) (drop (last_end 0 es) cs) ≡ body = grind (arith, common_steps) in
-    between_push 0 es cs (used + length body) ∙ λ i. between_same 0 es cs bs (last_end 0 es) r same i ++ written i ∷ []
+    grind (
+      arith,
+      common_steps,
+      between_push 0 es (take used bs ++ (body ++ rest)) (used + length body),
+      between_same 0 es (take used bs ++ (body ++ rest)) bs (last_end 0 es) r,
+    )
 
 -- how many data bytes all messages have
 pub data_between : (es bs : List ℕ) → rise 0 es (last_end 0 es) ≡ true → last_end 0 es ≤ length bs → data_bytes (between 0 es bs) ≡ last_end 0 es
