@@ -1,20 +1,23 @@
 // A store that grows, in memory of a stated size.
 ghost use Rattle.std.specs.Prelude.{◌≡◌, ◌≤◌, false, [], length, take, is_ok, IfOk};
 ghost use Rattle.std.specs.Option.{option_copied};
+ghost use Rattle.wire.specs.Segments.{Z};
 ghost use Rattle.wire.specs.Sessions.{span, message_of};
-ghost use Rattle.store.specs.Stores.{Storable, where_inside};
+ghost use Rattle.wire.specs.Writing.{some_long};
+ghost use Rattle.store.specs.Stores.{where_inside};
 
-use memory::message_buffer::{MessageBuffer, NoRoom};
+use memory::message_buffer::MessageBuffer;
 use std::alloc::{AllocError, Global};
 use wire::fault::{Fault, Refusal};
 use wire::limits::{LONG_MAX, MAX_MESSAGE};
 
-// The messages that were appended. A ghost field and no model: the law of `Store` asks the fact of every value, and a model's value would
-// not have it.
+// The messages that were appended. Its facts are ghost fields and no model's invariant, since the law of
+// `Store` asks them of every value, and a model's value would not have them.
 #[derive(Drop)]
 pub struct Live {
     buffer: MessageBuffer,
-    ghost storable: { Storable buffer.messages },
+    ghost short: { some_long buffer.messages ≡ false },
+    ghost placeable: { span buffer.messages ≤ Z },
 }
 
 impl Live {
@@ -30,6 +33,7 @@ impl Live {
 
     // Adds a message at the end. One that is longer than a message may be is refused, and so is one for which there is no room or
     // whose block would end past the largest Long; nothing then changes.
+    #[tactic(auto, using(crate::proofs::LiveStores::short_push, wire::proofs::Sessions::span_push))]
     pub fn append(&mut self, body: &[u8]) -> Result<(), Fault>
         ensures value { result ≡ append_answer (kept self.old) body.now }
         ensures after { kept self.new ≡ appended result (kept self.old) body.now }
@@ -41,13 +45,11 @@ impl Live {
         if self.total() + 2 + body.len() as u64 > LONG_MAX {
             return Err(Refusal::StoreFull.at(0));
         }
-        self.buffer
-            .push(body)
-            .map_err(|_: NoRoom| Refusal::StoreFull.at(0))
+        self.buffer.push(body).map_err(|_| Refusal::StoreFull.at(0))
     }
 
-    #[tactic(auto, using(crate::proofs::LiveStores::place_is, crate::proofs::Touching::span_part))]
     // Where the block of message `index` begins, counted from 0; past the last message, where all blocks end.
+    #[tactic(auto, using(crate::proofs::LiveStores::place_is, crate::proofs::Touching::span_part, wire::proofs::Writing::long_span))]
     fn place(&self, index: usize) -> u64
         requires { index ≤ length (kept self.now).messages }
         ensures { result ≡ span (take index (kept self.now).messages) }
@@ -55,8 +57,8 @@ impl Live {
         2 * index as u64 + self.buffer.start(index) as u64
     }
 
-    #[tactic(auto, using(std::proofs::lemmas::List::take_all))]
     // How many bytes the blocks have.
+    #[tactic(auto, using(std::proofs::lemmas::List::take_all))]
     fn total(&self) -> u64
         ensures { result ≡ span (kept self.now).messages }
     {
