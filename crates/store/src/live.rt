@@ -11,8 +11,8 @@ use std::alloc::{AllocError, Global};
 use wire::fault::{Fault, Refusal};
 use wire::limits::{LONG_MAX, MAX_MESSAGE};
 
-// The messages that were appended. Its facts are ghost fields and no model's invariant, since the law of
-// `Store` asks them of every value, and a model's value would not have them.
+// The messages that were appended. It has ghost fields and no model: the law of `Store` asks these facts of every value, and a model's
+// value does not have them.
 #[derive(Drop)]
 pub struct Live {
     buffer: MessageBuffer,
