@@ -6,6 +6,11 @@ abbrev pub rise : ℕ → List ℕ → ℕ → Bool
 rise from [] last = from == last
 rise from (e ∷ es) last = nat_le from e && rise e es last
 
+-- where all data ends: at the last end, or where the first message would begin
+abbrev pub last_end : ℕ → List ℕ → ℕ
+last_end from [] = from
+last_end from (e ∷ es) = last_end e es
+
 -- the data between each end and the one before it
 abbrev pub between : ℕ → List ℕ → List ℕ → List (List ℕ)
 between from [] bytes = []

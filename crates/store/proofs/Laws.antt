@@ -1,28 +1,18 @@
 -- The laws of every store.
-use Rattle.std.proofs.Common.{◌≡◌, ℕ, ◌+◌, ◌-◌, ◌<◌, ◌≤◌, true, false, leb, List, [], length, get_or, take, Some, None, sym, ap, ◌∙◌, ⊎_elim, arith}
+use Rattle.std.proofs.Common.{◌≡◌, ℕ, ◌+◌, ◌-◌, ◌<◌, ◌≤◌, leb, List, [], length, get_or, take, Some, sym, ap, inl, inr, arith}
 use Rattle.std.proofs.lemmas.List.{take_all}
-use Rattle.std.proofs.lemmas.Bool.{cases_order, cond_both, cond-true, cond-false, and_parts, and_from, and_left, and_right, leb-true, le-leb, lt-leb}
+use Rattle.std.proofs.lemmas.Bool.{cases_order, and_parts, leb-true}
+use Rattle.std.proofs.lemmas.Grind.{common_steps}
+use Rattle.std.proofs.lemmas.Option.{cond_some}
 use Rattle.wire.specs.Sessions.{span, place_of, message_of}
 use Rattle.wire.proofs.Sessions.{places_run_on}
 use Rattle.store.specs.Laws.{Stands, PlacesFit, BytesTouchOne}
 use Rattle.store.specs.Stores.{inside, where_inside}
 use Rattle.store.proofs.Touching.{span_rises, touching_is, holder, touching_none}
 
-pub inside_from : (ms : List (List ℕ)) (n : ℕ) → 1 ≤ n → n ≤ length ms → inside ms n ≡ true
-inside_from ms n low high = and_from _ _ (le-leb 1 n low) (le-leb n (length ms) high)
-
-pub outside_low : (ms : List (List ℕ)) (n : ℕ) → n < 1 → inside ms n ≡ false
-outside_low ms n h = and_left _ (leb n (length ms)) (lt-leb 1 n h)
-
-pub outside_high : (ms : List (List ℕ)) (n : ℕ) → length ms < n → inside ms n ≡ false
-outside_high ms n h = and_right (leb 1 n) _ (lt-leb n (length ms) h)
-
 -- an answer that is there is about a message of the list
 pub found : {X : Type 0} (ms : List (List ℕ)) (n : ℕ) (x y : X) → where_inside ms n x ≡ Some y → (1 ≤ n) × ((n ≤ length ms) × (x ≡ y))
-found ms n x y =
-    cond_both (inside ms n) (Some x) None (λ r. r ≡ Some y → (1 ≤ n) × ((n ≤ length ms) × (x ≡ y)))
-    (λ t e. let p = and_parts (leb 1 n) (leb n (length ms)) t in let same : x ≡ y = cc in (leb-true 1 n p.0, (leb-true n (length ms) p.1, same)))
-    (λ _ e. let z : ◌≡◌ {A = ℕ} 0 1 = cc in absurd (omega arith))
+found ms n x y e = let p = cond_some (inside ms n) x y e in let q = and_parts (leb 1 n) (leb n (length ms)) p.0 in (leb-true 1 n q.0, (leb-true n (length ms) q.1, p.1))
 
 -- what it is for a message to stand somewhere
 pub record IsAt (ms : List (List ℕ)) (n p k : ℕ) : Type 0 where
@@ -39,9 +29,7 @@ is_at ms n p k s =
 
 -- a message of the list stands at its place
 pub standing_at : (ms : List (List ℕ)) (n : ℕ) → 1 ≤ n → n ≤ length ms → Stands ms n (place_of ms n) (length (message_of ms n))
-standing_at ms n low high =
-    let t = inside_from ms n low high in
-    record { long = cond-true _ _ _ t; placed = cond-true _ _ _ t }
+standing_at ms n low high = record { long = grind (arith, common_steps); placed = grind (arith, common_steps) }
 
 -- where the block of message n ends
 ends : (ms : List (List ℕ)) (n : ℕ) → 1 ≤ n → n ≤ length ms → place_of ms (n + 1) ≡ place_of ms n + 2 + length (message_of ms n)
@@ -51,38 +39,21 @@ pub places_fit : (ms : List (List ℕ)) → PlacesFit ms
 places_fit ms =
     record {
       present = λ n low high. (place_of ms n, (length (message_of ms n), standing_at ms n low high));
-      absent = λ n. (
-        (λ h. (cond-false _ _ _ (outside_low ms n h), cond-false _ _ _ (outside_low ms n h))),
-        (λ h. (cond-false _ _ _ (outside_high ms n h), cond-false _ _ _ (outside_high ms n h))),
-      );
+      absent = λ n. ((λ h. (grind (arith, common_steps), grind (arith, common_steps))), (λ h. (grind (arith, common_steps), grind (arith, common_steps))));
       first = λ p k s. sym (is_at ms 1 p k s).placed;
       next = λ n p k q j s t.
           let a = is_at ms n p k s in
           let b = is_at ms (n + 1) q j t in
-          let e = ends ms n a.low a.high in
-          let ap = a.placed in
-          let al = a.long in
-          let bp = b.placed in
-          omega arith;
+          omega (arith, ends ms n a.low a.high);
       last = λ p k s.
           let a = is_at ms (length ms) p k s in
-          let e = ends ms (length ms) a.low a.high in
-          let m : length ms + 1 - 1 ≡ length ms = omega arith in
-          let all : place_of ms (length ms + 1) ≡ span ms = ap (λ (i : ℕ). span (take i ms)) m ∙ ap span (take_all (length ms) ms (omega arith)) in
-          let pp = a.placed in
-          let pl = a.long in
-          omega arith;
+          let all : place_of ms (length ms + 1) ≡ span ms = ap span (take_all (length ms + 1 - 1) ms (omega arith)) in
+          omega (arith, ends ms (length ms) a.low a.high);
     }
 
 -- no two messages have one byte
 apart : (ms : List (List ℕ)) (n m b p k q j : ℕ) → IsAt ms n p k → IsAt ms m q j → b < p + 2 + k → q ≤ b → n < m → ⊥
-apart ms n m b p k q j a c before from h =
-    let e = ends ms n a.low a.high in
-    let r = span_rises (n + 1 - 1) (m - 1) ms (omega arith) in
-    let ap = a.placed in
-    let al = a.long in
-    let cp = c.placed in
-    omega arith
+apart ms n m b p k q j a c before from h = omega (arith, ends ms n a.low a.high, span_rises (n + 1 - 1) (m - 1) ms (omega arith))
 
 pub bytes_touch_one : (ms : List (List ℕ)) → BytesTouchOne ms
 bytes_touch_one ms =
@@ -91,12 +62,9 @@ bytes_touch_one ms =
           let r = holder ms b h in
           let i = r.0 in
           let t = r.1 in
-          let w = t.within in
           let back : (1 + i) - 1 ≡ i = omega arith in
           let place : place_of ms (1 + i) ≡ span (take i ms) = ap (λ (k : ℕ). span (take k ms)) back in
-          let size : length (message_of ms (1 + i)) ≡ length (get_or ms i []) = ap (λ (k : ℕ). length (get_or ms k [])) back in
-          let f = t.from_place in
-          let e = t.before_end in (
+          let size : length (message_of ms (1 + i)) ≡ length (get_or ms i []) = ap (λ (k : ℕ). length (get_or ms k [])) back in (
             1 + i,
             (
               touching_is 1 ms i b t,
@@ -112,9 +80,10 @@ bytes_touch_one ms =
       alone = λ b n m x y.
           let a = is_at ms n x.place x.size x.stands in
           let c = is_at ms m y.place y.size y.stands in
-          ⊎_elim (λ e. e)
-          (⊎_elim (λ l. absurd (apart ms n m b _ _ _ _ a c x.before_end y.from_place l))
-          (λ l. absurd (apart ms m n b _ _ _ _ c a y.before_end x.from_place l)))
-          (cases_order n m);
+          elim (cases_order n m) [
+            | inl same ↦ same
+            | inr (inl before) ↦ absurd (apart ms n m b _ _ _ _ a c x.before_end y.from_place before)
+            | inr (inr behind) ↦ absurd (apart ms m n b _ _ _ _ c a y.before_end x.from_place behind)
+          ];
       untouched = λ b h. touching_none 1 ms b h;
     }
