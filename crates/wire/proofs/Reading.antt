@@ -12,7 +12,7 @@ use Rattle.wire.specs.Faults.{fault}
 use Rattle.wire.specs.Fields.{field}
 use Rattle.wire.specs.Outcomes.{map_ok, Check, first_fault}
 use Rattle.wire.specs.ReadingLaw.{ByLaw, Accepted}
-use Rattle.wire.specs.Segments.{Plain, size_checks, split_header, address_checks, range_checks, header_of, segment_of, read_segment}
+use Rattle.wire.specs.Segments.{Plain, size_checks, split_datagram, address_checks, range_checks, header_of, segment_of, read_segment}
 use Rattle.wire.specs.Views.{Handed, messages, carried, messages_of, body_of, content_unread}
 use Rattle.wire.proofs.Blocks.{Pair, first_block_cases, first_block_good, after}
 use Rattle.wire.proofs.Cursor.{unread_more}
@@ -73,10 +73,10 @@ module _ (e : Expected) (d : List ℕ) where
   pub refused : (f : Fault) → Err f ≡ read_segment e d → ByLaw e d (Err f)
   refused f v = subst (ByLaw e d) (sym v) (reads_by_law e d)
 
-  pub by_size : (f : Fault) → Err f ≡ split_header d → Err f ≡ read_segment e d
+  pub by_size : (f : Fault) → Err f ≡ split_datagram d → Err f ≡ read_segment e d
   by_size f h = fault_found _ (size_checks d) (address_checks e d ++ range_checks d (length d)) _ f h
 
-  module _ (head rest : List ℕ) (s : Ok (head, rest) ≡ split_header d) where
+  module _ (head rest : List ℕ) (s : Ok (head, rest) ≡ split_datagram d) where
     parts : ◌≡◌ {A = Pair} (head, rest) (take 40 d, drop 40 d)
     parts = let p = (past_checks (size_checks d) (Ok (take 40 d, drop 40 d)) (head, rest) (sym s)).1 in cc
 

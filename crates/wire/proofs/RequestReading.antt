@@ -3,12 +3,14 @@ use Rattle.std.proofs.Common.{◌≡◌, ℕ, ◌+◌, ◌-◌, ◌*◌, ◌/◌
 use Rattle.std.proofs.lemmas.Bool.{eqb-true, ltb-false, not-false, or_parts}
 use Rattle.std.specs.Simd.{first_chunks}
 use Rattle.wire.specs.declared.fault.Fault.{Fault}
+use Rattle.wire.specs.declared.fault.Refusal.TheVariants.{ShortRequest}
 use Rattle.wire.specs.declared.request.ExpectedRequest.{ExpectedRequest}
 use Rattle.wire.specs.declared.request.Range.{Range}
 use Rattle.wire.specs.Fields.{field}
+use Rattle.wire.specs.Headers.{short_checks, split_header}
 use Rattle.wire.specs.Outcomes.{map_ok, Check, first_fault}
 use Rattle.wire.specs.RequestLaw.{RequestByLaw}
-use Rattle.wire.specs.Requests.{Kind, size_checks, split_header, front_checks, address_checks, is_stream, count_checks, range_of, ranges, checked_ranges, ranges_from, read_request}
+use Rattle.wire.specs.Requests.{Kind, front_checks, address_checks, is_stream, count_checks, range_of, ranges, checked_ranges, ranges_from, read_request}
 use Rattle.wire.proofs.Blocks.{Pair}
 use Rattle.wire.proofs.Headers.{front_checks-take, request_address_checks-take, count_checks-take}
 use Rattle.wire.proofs.Outcomes.{passed, ok_not_err, map_ok_from, none_found, fault_found, past_checks}
@@ -40,12 +42,12 @@ module _ (k : Kind) (x : ExpectedRequest) (d : List ℕ) where
   abbrev behind : List Check
   behind = address_checks x.address d ++ count_checks x.transport d (length d)
 
-  pub by_size : (f : Fault) → Err f ≡ split_header d → Err f ≡ read_request k x d
-  by_size f h = fault_found _ (size_checks d) (front_checks k d ++ behind) _ f h
+  pub by_size : (f : Fault) → Err f ≡ split_header 16 ShortRequest d → Err f ≡ read_request k x d
+  by_size f h = fault_found _ (short_checks 16 ShortRequest d) (front_checks k d ++ behind) _ f h
 
-  module _ (head body : List ℕ) (s : Ok (head, body) ≡ split_header d) where
+  module _ (head body : List ℕ) (s : Ok (head, body) ≡ split_header 16 ShortRequest d) where
     parts : ◌≡◌ {A = Pair} (head, body) (take 16 d, drop 16 d)
-    parts = let p = (past_checks (size_checks d) (Ok (take 16 d, drop 16 d)) (head, body) (sym s)).1 in cc
+    parts = let p = (past_checks (short_checks 16 ShortRequest d) (Ok (take 16 d, drop 16 d)) (head, body) (sym s)).1 in cc
 
     head_is : head ≡ take 16 d
     head_is = ap (λ (p : Pair). p.0) parts
@@ -65,12 +67,12 @@ module _ (k : Kind) (x : ExpectedRequest) (d : List ℕ) where
         (ap (λ h. count_checks x.transport h (length d)) head_is ∙ count_checks-take d x.transport (length d))
 
     pub by_front : (f : Fault) → Err f ≡ first_fault (front_checks k head) passed → Err f ≡ read_request k x d
-    by_front f h = fault_found _ (front_checks k d) behind _ f (h ∙ front_is) ∙ sym (none_found _ _ (size_checks d) (front_checks k d ++ behind) _ s)
+    by_front f h = fault_found _ (front_checks k d) behind _ f (h ∙ front_is) ∙ sym (none_found _ _ (short_checks 16 ShortRequest d) (front_checks k d ++ behind) _ s)
 
     module _ (t : passed ≡ first_fault (front_checks k head) passed) where
-      front_passed : (told : Read) → first_fault behind told ≡ first_fault (size_checks d ++ (front_checks k d ++ behind)) told
+      front_passed : (told : Read) → first_fault behind told ≡ first_fault (short_checks 16 ShortRequest d ++ (front_checks k d ++ behind)) told
       front_passed told =
-          sym (none_found _ _ (size_checks d) (front_checks k d ++ behind) told s ∙ none_found _ _ (front_checks k d) behind told (t ∙ front_is))
+          sym (none_found _ _ (short_checks 16 ShortRequest d) (front_checks k d ++ behind) told s ∙ none_found _ _ (front_checks k d) behind told (t ∙ front_is))
 
       pub by_address : (f : Fault) → Err f ≡ first_fault (address_checks x.address head) passed → Err f ≡ read_request k x d
       by_address f h = fault_found _ (address_checks x.address d) (count_checks x.transport d (length d)) _ f (h ∙ address_is) ∙ front_passed _

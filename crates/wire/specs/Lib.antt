@@ -4,6 +4,7 @@ pub mod Buffers
 pub mod Cursor
 pub mod Faults
 pub mod Fields
+pub mod Headers
 pub mod Outcomes
 pub mod ReadingLaw
 pub mod RequestLaw

@@ -11,6 +11,7 @@ use Rattle.wire.specs.declared.request.Transport.TheVariants.{Datagram, Stream}
 use Rattle.wire.specs.declared.request.ranges.Ranges.{Ranges}
 use Rattle.wire.specs.Addresses.{expected_of, other_address_checks}
 use Rattle.wire.specs.Fields.{field}
+use Rattle.wire.specs.Headers.{short_checks}
 use Rattle.wire.specs.Outcomes.{map_ok, and_then, Check, check, first_fault}
 use Rattle.wire.specs.Segments.{Z}
 
@@ -30,14 +31,6 @@ by_numbers = record { code = 1; lowest = 1 }
 -- ranges of stream bytes: type 2, from 0 on
 abbrev pub by_bytes : Kind
 by_bytes = record { code = 2; lowest = 0 }
-
--- what can be wrong with the size
-abbrev pub size_checks : List ℕ → List Check
-size_checks d = check (nat_lt (length d) 16) ShortRequest (length d) ∷ []
-
--- the header of a request that is not too short, and what stands behind it
-abbrev pub split_header : List ℕ → Result (List ℕ × List ℕ) Fault
-split_header d = first_fault (size_checks d) (Ok (take 16 d, drop 16 d))
 
 -- what can be wrong with the version and the type
 abbrev pub front_checks : Kind → List ℕ → List Check
@@ -69,7 +62,7 @@ count_checks t d n =
 -- all that can be wrong with a header, in the order in which it is looked for
 abbrev pub header_checks : Kind → ExpectedRequest → List ℕ → List Check
 header_checks k x d =
-    size_checks d ++ (front_checks k d ++ (address_checks x.address d ++ count_checks x.transport d (length d)))
+    short_checks 16 ShortRequest d ++ (front_checks k d ++ (address_checks x.address d ++ count_checks x.transport d (length d)))
 
 -- the range that 16 bytes name
 abbrev pub range_of : List ℕ → Range

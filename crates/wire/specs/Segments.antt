@@ -30,8 +30,8 @@ size_checks d =
     ∷ []
 
 -- the header and the payload of a datagram of a right size
-abbrev pub split_header : List ℕ → Result (List ℕ × List ℕ) Fault
-split_header d = first_fault (size_checks d) (Ok (take 40 d, drop 40 d))
+abbrev pub split_datagram : List ℕ → Result (List ℕ × List ℕ) Fault
+split_datagram d = first_fault (size_checks d) (Ok (take 40 d, drop 40 d))
 
 -- the refusals of an address that is not the expected one
 abbrev pub address_refusals : AddressRefusals

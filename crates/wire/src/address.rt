@@ -49,10 +49,10 @@ impl Expected {
     pub(crate) fn check_address(
         &self,
         header: &[u8],
-        refusals: &AddressRefusals,
+        refusals: AddressRefusals,
     ) -> Result<(), Fault>
         requires { 12 ≤ length header.now }
-        ensures { result ≡ first_fault (other_address_checks refusals.now self.now header.now) (Ok tt) }
+        ensures { result ≡ first_fault (other_address_checks refusals self.now header.now) (Ok tt) }
     {
         if self.protocol != field_at(header, 2) {
             return Err(refusals.protocol.at(2));

@@ -5,6 +5,7 @@ pub mod address;
 pub mod block;
 pub mod fault;
 mod field;
+mod header;
 pub mod limits;
 pub mod messages;
 pub mod request;

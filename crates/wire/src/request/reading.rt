@@ -2,11 +2,12 @@
 ghost use Rattle.std.specs.Prelude.{◌≡◌, Ok};
 ghost use Rattle.wire.specs.Outcomes.{map_ok, first_fault};
 ghost use Rattle.wire.specs.RequestLaw.{RequestByLaw};
-ghost use Rattle.wire.specs.Requests.{kind_of, split_header, front_checks, address_checks, count_checks, unread_ranges, read_request};
+ghost use Rattle.wire.specs.Requests.{kind_of, front_checks, address_checks, count_checks, unread_ranges, read_request};
 
 use crate::address::{Address, AddressRefusals, Expected};
 use crate::fault::{Fault, Refusal};
 use crate::field::field_at;
+use crate::header::split_header;
 use crate::limits::VERSION;
 use crate::request::ranges::check_ranges;
 use crate::request::{
@@ -19,15 +20,6 @@ const ADDRESS_REFUSALS: AddressRefusals = AddressRefusals {
     channel: Refusal::WrongRequestChannel,
     session: Refusal::WrongRequestSession,
 };
-
-// The header of a request, and what stands behind it.
-fn split_header(request: &[u8]) -> Result<(&[u8; REQUEST_HEADER_LEN], &[u8]), Fault>
-    ensures { map_ok (λ p. (p.0.now, p.1.now)) result ≡ split_header request.now }
-{
-    request
-        .split_first_chunk()
-        .ok_or(Refusal::ShortRequest.at(request.len() as u64))
-}
 
 // Whether a header is of this version and this type.
 fn check_front<K: RangeKind>(header: &[u8; REQUEST_HEADER_LEN]) -> Result<(), Fault>
@@ -45,7 +37,7 @@ fn check_front<K: RangeKind>(header: &[u8; REQUEST_HEADER_LEN]) -> Result<(), Fa
 fn check_address(header: &[u8; REQUEST_HEADER_LEN], address: Address) -> Result<(), Fault>
     ensures { result ≡ first_fault (address_checks address header.now) (Ok tt) }
 {
-    Expected::from(address).check_address(header, &ADDRESS_REFUSALS)
+    Expected::from(address).check_address(header, ADDRESS_REFUSALS)
 }
 
 // Whether there are as many ranges as there may be, and as many bytes as they take.
@@ -75,7 +67,7 @@ pub fn read<'a, K: RangeKind>(
     ensures value { map_ok unread_ranges result ≡ read_request (kind_of K.TYPE K.LOWEST) expected.now request.now }
     ensures law { RequestByLaw (kind_of K.TYPE K.LOWEST) expected.now request.now (map_ok unread_ranges result) }
 {
-    let (header, body) = split_header(request)?;
+    let (header, body) = split_header(request, Refusal::ShortRequest)?;
     check_front::<K>(header)?;
     check_address(header, expected.address)?;
     check_count(header, expected.transport, request.len())?;

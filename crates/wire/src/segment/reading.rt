@@ -3,13 +3,14 @@ ghost use Rattle.std.specs.Prelude.{◌≡◌, IfOk, Ok};
 ghost use Rattle.wire.specs.Cursor.{unread};
 ghost use Rattle.wire.specs.Outcomes.{map_ok, first_fault};
 ghost use Rattle.wire.specs.ReadingLaw.{ByLaw};
-ghost use Rattle.wire.specs.Segments.{split_header, address_checks, range_checks, header_of, read_segment};
+ghost use Rattle.wire.specs.Segments.{split_datagram, address_checks, range_checks, header_of, read_segment};
 ghost use Rattle.wire.specs.Views.{handed, content_unread, messages_of, plain, HandedInOrder};
 
 use crate::address::{Address, AddressRefusals, Expected};
 use crate::block::check_blocks;
 use crate::fault::{Fault, Refusal};
 use crate::field::field_at;
+use crate::header::split_header;
 use crate::limits::{LONG_MAX, MAX_DATAGRAM, VERSION};
 use crate::messages::Messages;
 use crate::segment::{Content, HEADER_LEN, Header, Segment};
@@ -22,12 +23,10 @@ const ADDRESS_REFUSALS: AddressRefusals = AddressRefusals {
 };
 
 // The header and the payload of a datagram that is neither too short nor too long.
-fn split_header(datagram: &[u8]) -> Result<(&[u8; HEADER_LEN], &[u8]), Fault>
-    ensures { map_ok (λ p. (p.0.now, p.1.now)) result ≡ split_header datagram.now }
+fn split_datagram(datagram: &[u8]) -> Result<(&[u8; HEADER_LEN], &[u8]), Fault>
+    ensures { map_ok (λ p. (p.0.now, p.1.now)) result ≡ split_datagram datagram.now }
 {
-    let parts = datagram
-        .split_first_chunk()
-        .ok_or(Refusal::ShortDatagram.at(datagram.len() as u64))?;
+    let parts = split_header(datagram, Refusal::ShortDatagram)?;
     if datagram.len() > MAX_DATAGRAM {
         return Err(Refusal::LongDatagram.at(MAX_DATAGRAM as u64));
     }
@@ -40,7 +39,7 @@ fn check_address(header: &[u8; HEADER_LEN], expected: &Expected) -> Result<(), F
     if header[0] != VERSION {
         return Err(Refusal::WrongVersion.at(0));
     }
-    expected.check_address(header, &ADDRESS_REFUSALS)
+    expected.check_address(header, ADDRESS_REFUSALS)
 }
 
 // Whether the length of a datagram and the numbers that its header names are in range.
@@ -108,7 +107,7 @@ pub fn read<'a>(datagram: &'a [u8], expected: &Expected) -> Result<Segment<'a>, 
     ensures content { IfOk result HandedInOrder }
     ensures law { ByLaw expected.now datagram.now (map_ok plain result) }
 {
-    let (header, payload) = split_header(datagram)?;
+    let (header, payload) = split_datagram(datagram)?;
     check_address(header, expected)?;
     check_ranges(header, datagram.len())?;
     let header = read_header(header);
