@@ -4,7 +4,7 @@ use borrow.Rule.Slice.PartMut.{put_mid}
 use Rattle.std.proofs.lemmas.List.{append-nil, drop_all, drop-drop, drop_more, take_more, take_rest, take-append-drop, flat_map_more}
 use Rattle.std.specs.List.{slice_get}
 use Rattle.std.specs.Option.{option_map, unwrap_or}
-use Rattle.std.proofs.lemmas.Bool.{cond-true, cond-false, le-leb, lt-ltb, le-ltb, or_left, or_right}
+use Rattle.std.proofs.lemmas.Bool.{cond-true, le-leb, lt-ltb, le-ltb, or_left, or_right}
 use Rattle.wire.specs.declared.segment.Header.{Header}
 use Rattle.wire.specs.Fields.{bytes_of, overwritten}
 use Rattle.wire.specs.Sessions.{span}
@@ -97,11 +97,6 @@ module _ (n : ℕ) (ms : List (List ℕ)) (i size : ℕ) (h : i < length ms) (s 
       let short = le-ltb 1430 (length first) (omega arith) in
       let sum : n + span (first ∷ others) ≡ n + (2 + size) + span others = omega arith in
       ap (measured_from n) (drop_more ms i [] h) ∙ (λ t. cond ((short t || some_long others) || ltb 65495 (sum t)) None (Some (sum t)))
-
-pub measured_all : (n : ℕ) (ms : List (List ℕ)) (i : ℕ) → length ms ≤ i → n ≤ 65495 → measured_from n (drop i ms) ≡ Some n
-measured_all n ms i h l =
-    let sum : n + 0 ≡ n = omega arith in
-    ap (measured_from n) (drop_all i ms h) ∙ (cond-false _ _ _ (le-ltb 65495 (n + 0) (omega arith)) ∙ ap Some sum)
 
 pub length_payload : (ms : List (List ℕ)) → length (payload_bytes ms) ≡ span ms
 length_payload [] = refl

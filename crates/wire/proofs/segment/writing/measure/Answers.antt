@@ -1,5 +1,5 @@
 use Rattle.std.proofs.Common.{◌<◌, length, sym, ◌∙◌, arith}
-use Rattle.wire.proofs.Writing.{size_is, measured_long, measured_past, measured_more, measured_all}
+use Rattle.wire.proofs.Writing.{size_is, measured_long, measured_past, measured_more}
 use Rattle.wire.proofs.segment.writing.measure.Goals as goal
 
 pub returns-then-size-gt-MAX_MESSAGE : goal.returns-then-size-gt-MAX_MESSAGE
@@ -25,9 +25,3 @@ loop-index-preserved g c =
     let within : i < length ms = omega (arith, c.count-index-end.ensures) in
     let s = size_is ms i c.unwrap_or-size.result _ c.unwrap_or-size.ensures c.size.ensures in
     (omega arith, c.loop-index.invariant.1 ∙ measured_more c.loop-index.payload ms i c.unwrap_or-size.result within s (omega arith))
-
-pub returns : goal.returns
-returns g c =
-    let ms = g.B.Bodies.messages c.args.bodies.now in
-    sym (c.loop-index.invariant.1
-    ∙ measured_all c.loop-index.payload ms c.loop-index.index (omega (arith, c.count-index-end.ensures)) c.loop-index.invariant.0)

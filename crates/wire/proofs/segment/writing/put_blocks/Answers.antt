@@ -1,9 +1,8 @@
-use Rattle.std.proofs.Common.{◌<◌, ltb, length, sym, ap, ◌∙◌, arith}
-use Rattle.std.proofs.lemmas.List.{take-append-drop, take_all}
+use Rattle.std.proofs.Common.{◌<◌, ltb, length, sym, arith}
+use Rattle.std.proofs.lemmas.List.{take-append-drop}
 use Rattle.std.proofs.lemmas.Bool.{or_parts, ltb-false}
-use Rattle.wire.specs.Fields.{overwritten}
 use Rattle.wire.specs.Sessions.{span}
-use Rattle.wire.specs.Writing.{payload_bytes, some_long}
+use Rattle.wire.specs.Writing.{some_long}
 use Rattle.wire.proofs.Writing.{span_more, span_inside, blocks_written}
 use Rattle.wire.proofs.segment.writing.put_blocks.Goals as goal
 
@@ -29,9 +28,3 @@ loop-index-preserved g c =
       blocks_written ms i c.args.out.now c.loop-index.out c.put_block-at.new.out c.loop-index.at within (omega arith)
           c.loop-index.invariant.0 c.loop-index.invariant.1 c.put_block-at.ensures.after,
     )
-
-pub returns : goal.returns
-returns g c =
-    let ms = g.B.Bodies.messages c.args.bodies.now in
-    let all = take_all c.loop-index.index ms (omega (arith, c.count-index-end.ensures)) in
-    c.loop-index.invariant.1 ∙ ap (λ x. overwritten c.args.out.now 40 (payload_bytes x)) all
