@@ -59,11 +59,15 @@ impl fmt::Display for Line {
         match self {
             Line::Refused(fault) => write!(f, "refused, {fault}"),
             Line::Heartbeat(next) => write!(f, "heartbeat, next {next}"),
-            Line::Messages(extent) => {
-                let first = extent.first;
-                let last = extent.last;
-                let offset = extent.offset;
-                let bytes = extent.bytes;
+            Line::Messages(
+                Extent {
+                    first,
+                    last,
+                    offset,
+                    bytes,
+                    ..
+                },
+            ) => {
                 write!(
                     f,
                     "messages {first} to {last}, offset {offset}, bytes {bytes}"
