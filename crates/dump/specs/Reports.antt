@@ -20,12 +20,7 @@ record_text n l = decimal n ++ (codes ": " ++ (line_text l ++ codes "\n"))
 
 -- one line more, with the number that the record then has
 abbrev pub with_line : Reported → Line → Reported
-with_line p l =
-    record {
-      expected = p.expected;
-      totals = added p.totals l;
-      text = p.text ++ record_text (added p.totals l).records l;
-    }
+with_line p l = record p { totals = added p.totals l; text = p.text ++ record_text (added p.totals l).records l }
 
 -- the line of a record, for a reader that expects e
 abbrev pub line_of : Expected → List ℕ → Line
@@ -47,12 +42,7 @@ with_cut p (Some d) = with_record p d
 
 -- the end of a report
 abbrev pub with_totals : Reported → Reported
-with_totals p =
-    record {
-      expected = p.expected;
-      totals = p.totals;
-      text = p.text ++ (codes "total: " ++ (totals_text p.totals ++ codes "\n"));
-    }
+with_totals p = record p { text = p.text ++ (codes "total: " ++ (totals_text p.totals ++ codes "\n")) }
 
 -- what a report holds after some bytes of a capture, of which it used the first n
 pub record Reports (before after : Reported) (bs : List ℕ) (n : ℕ) : Type 0 where

@@ -9,7 +9,7 @@ use wire::fault::Fault;
 use wire::segment::{Content, HEADER_LEN, read};
 
 // The messages of a segment, in short.
-#[derive(Clone, Copy)]
+#[derive(Clone, Copy, Debug, PartialEq, Eq)]
 pub struct Extent {
     pub first: u64,
     pub last: u64,
@@ -22,7 +22,7 @@ pub struct Extent {
 }
 
 // A record's line.
-#[derive(Clone, Copy)]
+#[derive(Clone, Copy, Debug, PartialEq, Eq)]
 pub enum Line {
     Refused(Fault),
     // the number of the next message
