@@ -12,13 +12,12 @@ module _ (held filled left : List ℕ) (before after : Reported) (n used : ℕ) 
       → after.expected ≡ before.expected → left ≡ drop used filled → FollowsOn held before left after n
   follows_on kept more r same is seen f =
       let new = drop (length held) filled in
-      let l = length-drop (length held) filled in
       let all : held ++ new ≡ filled = ap (λ x. x ++ new) (sym kept) ∙ take-append-drop (length held) filled in
       let rest_is : left ≡ r.rest = is ∙ off_the_end filled r.records r.rest used r.splits r.used in
-      let whole : Splits (held ++ new) r.records left = subst (λ x. Splits x r.records left) (sym all) (subst (λ y. Splits filled r.records y) (sym rest_is) r.splits) in
+      let whole : Splits (held ++ new) r.records left = rw (all, rest_is) r.splits in
       let line = line_of before.expected in (
         new,
-        omega arith,
+        omega (arith, length-drop (length held) filled),
         record {
           records = f.records ++ r.records;
           splits = in_parts seen new f.records r.records held left f.splits whole;

@@ -1,5 +1,5 @@
 -- What a report holds: for whom it reads, the counts of the records so far, and the text that is yet to be printed.
-use Rattle.std.specs.Prelude.{◌≡◌, ℕ, ◌+◌, List, [], ◌∷◌, ◌++◌, map, length, Some, None, codes, decimal, Option}
+use Rattle.std.specs.Prelude.{◌≡◌, ℕ, ◌+◌, List, [], ◌∷◌, ◌++◌, map, length, Some, None, codes, decimal, fold, Option}
 use Rattle.capture.specs.Records.{Splits, Captures}
 use Rattle.wire.specs.declared.address.Expected.{Expected}
 use Rattle.wire.specs.Segments.{read_segment}
@@ -32,8 +32,7 @@ with_record p d = with_line p (line_of p.expected d)
 
 -- several records more
 abbrev pub with_records : Reported → List (List ℕ) → Reported
-with_records p [] = p
-with_records p (d ∷ ds) = with_records (with_record p d) ds
+with_records p ds = fold with_record p ds
 
 -- one record more, if there is one
 abbrev pub with_cut : Reported → Option (List ℕ) → Reported
