@@ -1,5 +1,5 @@
 -- How much there is of everything in a list of lines.
-use Rattle.std.specs.Prelude.{ℕ, ◌+◌, ◌-◌, ◌^◌, min, List, [], ◌∷◌, ◌++◌, length, codes, decimal, sum_by}
+use Rattle.std.specs.Prelude.{ℕ, ◌+◌, ◌-◌, ◌^◌, min, List, ◌++◌, length, codes, decimal, sum_by}
 use Rattle.dump.specs.declared.line.Line.{Line}
 use Rattle.dump.specs.declared.line.Line.TheVariants.{Refused, Heartbeat, Messages}
 use Rattle.dump.specs.declared.totals.Totals.{Totals}

@@ -1,5 +1,5 @@
 -- What a report holds: for whom it reads, the counts of the records so far, and the text that is yet to be printed.
-use Rattle.std.specs.Prelude.{◌≡◌, ℕ, ◌+◌, List, [], ◌∷◌, ◌++◌, map, length, Some, None, codes, decimal, fold, Option}
+use Rattle.std.specs.Prelude.{◌≡◌, ℕ, ◌+◌, List, ◌++◌, map, length, Some, None, codes, decimal, fold, Option}
 use Rattle.capture.specs.Records.{Splits, Captures}
 use Rattle.wire.specs.declared.address.Expected.{Expected}
 use Rattle.wire.specs.Segments.{read_segment}

@@ -1,7 +1,6 @@
-use Rattle.std.proofs.Common.{◌+◌, ◌-◌, length, sym, ap, ◌∙◌, arith}
+use Rattle.std.proofs.Common.{sym, ap, ◌∙◌}
 use Rattle.wire.specs.Cursor.{unread}
 use Rattle.wire.specs.Views.{plain, handed}
-use Rattle.dump.specs.declared.line.Line.TheVariants.{Messages}
 use Rattle.dump.proofs.LineLaws.{messages_line}
 use Rattle.dump.proofs.line.describe.Goals as goal
 

@@ -1,4 +1,4 @@
-use Rattle.std.proofs.Common.{◌≡◌, ap, ◌∙◌, rules}
+use Rattle.std.proofs.Common.{ap, ◌∙◌, rules}
 use Rattle.dump.specs.declared.totals.Totals.{Totals}
 use Rattle.dump.specs.Counts.{added}
 use Rattle.dump.proofs.CountLaws.{one_more}
