@@ -1,5 +1,6 @@
 // What was read of a capture and is not done with.
 ghost use Rattle.std.specs.Prelude.{◌≡◌, ◌+◌, [], length, take, drop, IfOk};
+ghost use Rattle.std.specs.Io.KnownBytes.{Consumes};
 ghost use Rattle.capture.specs.Intakes.{read_count};
 
 use std::alloc::{AllocError, Global};
@@ -50,6 +51,7 @@ impl Intake {
     pub fn fill<R: Read>(&mut self, source: &mut R) -> io::Result<usize>
         ensures kept { take (length self.old) self.new ≡ self.old }
         ensures more { length self.new ≡ length self.old + read_count result }
+        ensures taken { Consumes (R.remaining source.old) (R.remaining source.new) (drop (length self.old) self.new) }
     {
         let held = self.held.len();
         self.held.resize(SIZE.min(held + CHUNK), 0)?;
