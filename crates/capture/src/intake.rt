@@ -1,6 +1,6 @@
 // What was read of a capture and is not done with.
-ghost use Rattle.std.specs.Prelude.{◌≡◌, ◌+◌, [], length, take, drop, IfOk};
-ghost use Rattle.std.specs.Io.KnownBytes.{Consumes};
+ghost use Rattle.std.specs.Prelude.{◌≡◌, ◌+◌, ◌<◌, [], length, take, drop, IfOk};
+ghost use Rattle.std.specs.Io.KnownBytes.{Consumes, IsAtEnd};
 ghost use Rattle.capture.specs.Intakes.{read_count};
 
 use std::alloc::{AllocError, Global};
@@ -9,7 +9,7 @@ use std::io::Read;
 use std::marker::Model;
 
 // The most bytes that an intake holds: many times a record's most.
-const SIZE: usize = 1_048_576;
+pub const SIZE: usize = 1_048_576;
 
 // The most bytes that it reads at once: as many as a pipe holds. The memory for them is cleared first, so more would cost time.
 const CHUNK: usize = 65_536;
@@ -52,6 +52,7 @@ impl Intake {
         ensures kept { take (length self.old) self.new ≡ self.old }
         ensures more { length self.new ≡ length self.old + read_count result }
         ensures taken { Consumes (R.remaining source.old) (R.remaining source.new) (drop (length self.old) self.new) }
+        ensures end { result ≡ Ok 0 → length self.old < SIZE → IsAtEnd (R.remaining source.new) }
     {
         let held = self.held.len();
         self.held.resize(SIZE.min(held + CHUNK), 0)?;

@@ -1,4 +1,4 @@
-use Rattle.std.proofs.Common.{◌≡◌, ◌+◌, ◌≤◌, length, take, drop, rules, arith, ap, ◌∙◌, sym, subst}
+use Rattle.std.proofs.Common.{◌≡◌, ◌+◌, ◌≤◌, length, take, drop, rules, ap, ◌∙◌, sym, subst}
 use Rattle.std.proofs.lemmas.List.{length-take-le}
 use Rattle.std.specs.Io.KnownBytes.{Consumes}
 use Rattle.capture.specs.Intakes.{read_count}
@@ -15,5 +15,5 @@ returns-clause-taken g c =
     let fits : c.unwrap_or.result.now ≤ length buf = search rules in
     let room : held + c.unwrap_or.result.now ≤ c.resize.new.self.len = search rules in
     let back : drop (length c.args.self.now) c.truncate.new.self.items ≡ take (read_count c.read-read.result) buf
-      = rw held_is (ap (drop held) c.truncate.ensures.items ∙ (behind _ _ _ _ _ _ _ front fits room ∙ ap (λ k. take k buf) n_is)) in
+    = rw held_is (ap (drop held) c.truncate.ensures.items ∙ (behind _ _ _ _ _ _ _ front fits room ∙ ap (λ k. take k buf) n_is)) in
     subst (Consumes _ _) (sym back) (consumed _ _ _ _ c.read-read.ensures.bytes)
