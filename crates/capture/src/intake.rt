@@ -1,5 +1,5 @@
 // What was read of a capture and is not done with.
-ghost use Rattle.std.specs.Prelude.{◌≡◌, ◌+◌, ◌<◌, [], length, take, drop, IfOk};
+ghost use Rattle.std.specs.Prelude.{◌≡◌, ◌+◌, ◌<◌, ◌≤◌, [], length, take, drop, vec_len, IfOk};
 ghost use Rattle.std.specs.Io.KnownBytes.{Consumes, IsAtEnd};
 ghost use Rattle.capture.specs.Intakes.{read_count};
 
@@ -56,9 +56,7 @@ impl Intake {
     {
         let held = self.held.len();
         self.held.resize(SIZE.min(held + CHUNK), 0)?;
-        let read = source.read(&mut self.held[held..]);
-        self.held.truncate(held + *read.as_ref().unwrap_or(&0));
-        read
+        read_behind(&mut self.held, held, source)
     }
 
     // Lets go of the first `n` bytes, or of all where there are fewer.
@@ -70,4 +68,18 @@ impl Intake {
         self.held.copy_within(n.., 0);
         self.held.truncate(left);
     }
+}
+
+// Reads into `memory` behind its first `held` bytes, which stay, and cuts off what no byte was read into.
+fn read_behind<R: Read>(memory: &mut Vec<u8>, held: usize, source: &mut R) -> io::Result<usize>
+    requires { held ≤ vec_len memory.old }
+    ensures kept { take held memory.new.items ≡ take held memory.old.items }
+    ensures more { vec_len memory.new ≡ held + read_count result }
+    ensures within { vec_len memory.new ≤ vec_len memory.old }
+    ensures taken { Consumes (R.remaining source.old) (R.remaining source.new) (drop held memory.new.items) }
+    ensures end { result ≡ Ok 0 → held < vec_len memory.old → IsAtEnd (R.remaining source.new) }
+{
+    let read = source.read(&mut memory[held..]);
+    memory.truncate(held + *read.as_ref().unwrap_or(&0));
+    read
 }
