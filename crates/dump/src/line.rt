@@ -59,20 +59,11 @@ impl fmt::Display for Line {
         match self {
             Line::Refused(fault) => write!(f, "refused, {fault}"),
             Line::Heartbeat(next) => write!(f, "heartbeat, next {next}"),
-            Line::Messages(
-                Extent {
-                    first,
-                    last,
-                    offset,
-                    bytes,
-                    ..
-                },
-            ) => {
-                write!(
-                    f,
-                    "messages {first} to {last}, offset {offset}, bytes {bytes}"
-                )
-            }
+            Line::Messages(extent) => write!(
+                f,
+                "messages {} to {}, offset {}, bytes {}",
+                extent.first, extent.last, extent.offset, extent.bytes
+            ),
         }
     }
 }

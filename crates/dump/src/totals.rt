@@ -56,16 +56,10 @@ impl fmt::Display for Totals {
     ghost output = { λ t. Some (totals_text t) };
 
     fn fmt<W: fmt::Write>(&self, f: &mut fmt::Formatter<W>) -> fmt::Result {
-        let Totals {
-            records,
-            segments,
-            heartbeats,
-            refusals,
-            messages,
-        } = self;
         write!(
             f,
-            "records {records}, segments {segments}, heartbeats {heartbeats}, refusals {refusals}, messages {messages}"
+            "records {}, segments {}, heartbeats {}, refusals {}, messages {}",
+            self.records, self.segments, self.heartbeats, self.refusals, self.messages
         )
     }
 }
