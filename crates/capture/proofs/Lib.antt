@@ -1,2 +1,2 @@
-pub mod Intakes
 pub mod RecordLaws
+pub mod Intakes

@@ -1,5 +1,5 @@
 -- Laws of records.
-use Rattle.std.proofs.Common.{◌≡◌, ℕ, ◌+◌, ◌<◌, ◌≤◌, ◌||◌, ltb, List, [], ◌∷◌, ◌++◌, length, take, drop, Some, None, Option, sym, refl, ap, ◌∙◌, subst, arith, length-append, length-drop}
+use Rattle.std.proofs.Common.{◌≡◌, ℕ, ◌+◌, ◌<◌, ◌≤◌, ◌||◌, ltb, List, [], ◌∷◌, ◌++◌, length, take, drop, Some, sym, refl, ap, ◌∙◌, subst, arith, length-append, length-drop}
 use Rattle.std.proofs.lemmas.List.{take-append-le, drop-append-le, drop-drop}
 use Rattle.std.proofs.lemmas.Bool.{cond_both, cond-false, ltb-false, le-ltb, or_parts, or_from}
 use Rattle.wire.specs.Fields.{le, field}
@@ -8,82 +8,67 @@ use Rattle.capture.specs.Records.{first_record, Splits, SplitsOneWay, SplitsInPa
 abbrev Pair : Type 0
 Pair = List ℕ × List ℕ
 
-never : {P : Type 0} (p : Pair) → None ≡ Some p → P
-never p e = let z : ◌≡◌ {A = ℕ} 0 1 = cc in absurd (omega arith)
+-- the record at the front and what follows it, where all of it is there
+abbrev parted : List ℕ → Pair
+parted bs = (take (field bs 0 2) (drop 2 bs), drop (field bs 0 2) (drop 2 bs))
 
-same_pair : (a b c d : List ℕ) → ◌≡◌ {A = Option Pair} (Some (a, b)) (Some (c, d)) → (a ≡ c) × (b ≡ d)
-same_pair a b c d e = let q : ◌≡◌ {A = Pair} (a, b) (c, d) = cc in (ap (λ (p : Pair). p.0) q, ap (λ (p : Pair). p.1) q)
+-- a whole record stands first
+record Whole (bs : List ℕ) (p : Pair) : Type 0 where
+  two : 2 ≤ length bs
+  fits : field bs 0 2 ≤ length (drop 2 bs)
+  is : parted bs ≡ p
 
-module _ (bs : List ℕ) where
-  pub first_record_cases : (P : Option Pair → Type 0) → P None
-      → (2 ≤ length bs → field bs 0 2 ≤ length (drop 2 bs) → P (Some (take (field bs 0 2) (drop 2 bs), drop (field bs 0 2) (drop 2 bs))))
-      → P (first_record bs)
-  first_record_cases P none some =
-      cond_both (ltb (length bs) 2 || ltb (length (drop 2 bs)) (field bs 0 2)) _ _ P (λ _. none)
-      (λ t. let p = or_parts _ _ t in some (ltb-false _ _ p.0) (ltb-false _ _ p.1))
+whole : (bs : List ℕ) (p : Pair) → first_record bs ≡ Some p → Whole bs p
+whole bs p =
+    cond_both (ltb (length bs) 2 || ltb (length (drop 2 bs)) (field bs 0 2)) _ _ (λ o. o ≡ Some p → Whole bs p) (λ _ e. cc)
+    (λ t e. let q = or_parts _ _ t in record { two = ltb-false _ _ q.0; fits = ltb-false _ _ q.1; is = cc })
 
-  first_record_whole : 2 ≤ length bs → field bs 0 2 ≤ length (drop 2 bs)
-      → first_record bs ≡ Some (take (field bs 0 2) (drop 2 bs), drop (field bs 0 2) (drop 2 bs))
-  first_record_whole two fits = cond-false _ _ _ (or_from _ _ (le-ltb _ _ two) (le-ltb _ _ fits))
+first_record_whole : (bs : List ℕ) → 2 ≤ length bs → field bs 0 2 ≤ length (drop 2 bs) → first_record bs ≡ Some (parted bs)
+first_record_whole bs two fits = cond-false _ _ _ (or_from _ _ (le-ltb _ _ two) (le-ltb _ _ fits))
 
 -- a record taken leaves less
 pub shorter : (bs r after : List ℕ) → first_record bs ≡ Some (r, after) → length after < length bs
-shorter bs r after =
-    first_record_cases bs (λ o. o ≡ Some (r, after) → length after < length bs) (λ e. never (r, after) e)
-    (λ two fits e. let q = ap length (same_pair _ _ r after e).1 in
-    let l = length-drop (field bs 0 2) (drop 2 bs) in let k = length-drop 2 bs in omega arith)
+shorter bs r after e =
+    let w = whole bs (r, after) e in omega (arith, ap (λ (p : Pair). length p.1) w.is, length-drop {A = ℕ}, w.two)
 
 -- bytes behind a record stay behind it
 longer : (bs more r after : List ℕ) → first_record bs ≡ Some (r, after) → first_record (bs ++ more) ≡ Some (r, after ++ more)
-longer bs more r after =
-    first_record_cases bs (λ o. o ≡ Some (r, after) → first_record (bs ++ more) ≡ Some (r, after ++ more)) (λ e. never (r, after) e)
-    (λ two fits e.
-    let n = field bs 0 2 in
-    let p = same_pair _ _ r after e in
-    let n_is : field (bs ++ more) 0 2 ≡ n = ap le (take-append-le 2 bs more two) in
-    let data_is : drop 2 (bs ++ more) ≡ drop 2 bs ++ more = drop-append-le 2 bs more two in
-    let l = length-append bs more in
-    let k = ap length data_is in
-    let j = length-append (drop 2 bs) more in
-    let r_is : take (field (bs ++ more) 0 2) (drop 2 (bs ++ more)) ≡ r
-    = (λ i. take (n_is i) (data_is i)) ∙ (take-append-le n (drop 2 bs) more fits ∙ p.0) in
-    let after_is : drop (field (bs ++ more) 0 2) (drop 2 (bs ++ more)) ≡ after ++ more
-    = (λ i. drop (n_is i) (data_is i)) ∙ (drop-append-le n (drop 2 bs) more fits ∙ ap (λ x. x ++ more) p.1) in
-    first_record_whole (bs ++ more) (omega arith) (omega arith) ∙ (λ i. Some (r_is i, after_is i)))
+longer bs more r after e =
+    let w = whole bs (r, after) e in
+    let n_is : field (bs ++ more) 0 2 ≡ field bs 0 2 = ap le (take-append-le 2 bs more w.two) in
+    let data_is : drop 2 (bs ++ more) ≡ drop 2 bs ++ more = drop-append-le 2 bs more w.two in
+    let parts_are : parted (bs ++ more) ≡ (r, after ++ more)
+    = rw (n_is, data_is, take-append-le (field bs 0 2) (drop 2 bs) more w.fits, drop-append-le (field bs 0 2) (drop 2 bs) more w.fits)
+    (ap (λ (p : Pair). (p.0, p.1 ++ more)) w.is) in
+    first_record_whole (bs ++ more) (omega (arith, length-append {A = ℕ}, w.two)) (omega (arith, ap length data_is, length-append {A = ℕ}, n_is, w.fits))
+    ∙ ap Some parts_are
 
 pub one_way : SplitsOneWay
 one_way bs [] [] x y a b = (refl, a.1 ∙ sym b.1)
-one_way bs [] (t ∷ ts) x y a b = never _ (sym a.0 ∙ b.1)
-one_way bs (r ∷ rs) [] x y a b = never _ (sym b.0 ∙ a.1)
+one_way bs [] (t ∷ ts) x y a b = let z = sym a.0 ∙ b.1 in cc
+one_way bs (r ∷ rs) [] x y a b = let z = sym b.0 ∙ a.1 in cc
 one_way bs (r ∷ rs) (t ∷ ts) x y a b =
-    let p = same_pair r a.0 t b.0 (sym a.1 ∙ b.1) in
-    let s : Splits b.0 rs x = subst (λ l. Splits l rs x) p.1 a.2 in
-    let q = one_way b.0 rs ts x y s b.2 in
-    ((λ i. p.0 i ∷ q.0 i), q.1)
+    let z = sym a.1 ∙ b.1 in
+    let p : ◌≡◌ {A = Pair} (r, a.0) (t, b.0) = cc in
+    let q = one_way b.0 rs ts x y (subst (λ (p : Pair). Splits p.1 rs x) p a.2) b.2 in
+    ((λ i. (p i).0 ∷ q.0 i), q.1)
 
 pub in_parts : SplitsInParts
 in_parts bs more [] ts x y a b = subst (λ l. Splits (l ++ more) ts y) a.1 b
 in_parts bs more (r ∷ rs) ts x y a b = (a.0 ++ more, longer bs more r a.0 a.1, in_parts a.0 more rs ts x y a.2 b)
 
--- what follows a record stands at the end
-follows : (bs r after : List ℕ) → first_record bs ≡ Some (r, after) → (k : ℕ) × (after ≡ drop k bs) × (k + length after ≡ length bs)
-follows bs r after =
-    first_record_cases bs (λ o. o ≡ Some (r, after) → (k : ℕ) × (after ≡ drop k bs) × (k + length after ≡ length bs)) (λ e. never (r, after) e)
-    (λ two fits e.
-    let q = (same_pair _ _ r after e).1 in
-    let is : after ≡ drop (2 + field bs 0 2) bs = sym q ∙ drop-drop (field bs 0 2) 2 bs in
-    let l = ap length is ∙ length-drop (2 + field bs 0 2) bs in
-    let k = length-drop 2 bs in
-    (2 + field bs 0 2, is, omega arith))
-
 left_over : (bs : List ℕ) (rs : List (List ℕ)) (x : List ℕ) → Splits bs rs x → (k : ℕ) × (x ≡ drop k bs) × (k + length x ≡ length bs)
-left_over bs [] x s = let l = ap length s.1 in (0, s.1, omega arith)
+left_over bs [] x s = (0, s.1, omega (arith, ap length s.1))
 left_over bs (r ∷ rs) x s =
-    let f = follows bs r s.0 s.1 in
-    let g = left_over s.0 rs x s.2 in
-    let fl = f.2 in
-    let gl = g.2 in
-    (f.0 + g.0, g.1 ∙ (ap (drop g.0) f.1 ∙ drop-drop g.0 f.0 bs), omega arith)
+    let n = field bs 0 2 in
+    let w = whole bs (r, s.0) s.1 in
+    let after_is = ap (λ (p : Pair). p.1) w.is in
+    let l = left_over s.0 rs x s.2 in
+    let l2 = l.2 in (
+      2 + (n + l.0),
+      l.1 ∙ (ap (drop l.0) (sym after_is) ∙ (drop-drop l.0 n (drop 2 bs) ∙ drop-drop (n + l.0) 2 bs)),
+      omega (arith, ap length after_is, length-drop {A = ℕ}, w.two, w.fits),
+    )
 
 pub off_the_end : SplitsOffTheEnd
 off_the_end bs rs x n s h =

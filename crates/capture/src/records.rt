@@ -4,7 +4,7 @@ ghost use Rattle.std.specs.Option.{option_map};
 ghost use Rattle.capture.specs.Records.{first_record, cut_record, bytes_left, SplitsOneWay, SplitsInParts, SplitsOffTheEnd};
 ghost use Rattle.std.specs.Iterator.{at_most};
 
-// A cursor over the whole records in some bytes.
+// A cursor over the whole records in some bytes. It has no model, since a `Copy` struct with a lifetime can have none.
 #[derive(Clone, Copy, Debug)]
 pub struct Records<'a> {
     rest: &'a [u8],
@@ -29,6 +29,7 @@ impl<'a> Records<'a> {
 impl<'a> Iterator for Records<'a> {
     type Item = &'a [u8];
 
+    // std's words for the items that are left would not say which bytes are left.
     ghost next_gives = { λ s r t. MatchOption r ((first_record (bytes_left s) ≡ None) × (t ≡ s)) (λ x. first_record (bytes_left s) ≡ Some (x.now, bytes_left t)) };
 
     ghost remaining = { λ s. at_most (length (bytes_left s)) };

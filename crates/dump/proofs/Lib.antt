@@ -1,5 +1,4 @@
 pub mod CountLaws
 pub mod FollowLaws
 pub mod LineLaws
-pub mod NumberLaws
 pub mod ReportLaws

@@ -13,10 +13,10 @@ use Rattle.dump.specs.Lines.{segment_line, line_for}
 -- the blocks take up the datagram from a byte on
 spanned : (d : List ℕ) (at n p : ℕ) (ms : List (List ℕ)) → LaidOut d at n p (numbered n p ms) → at + span ms ≡ length d
 spanned d at n p [] x = omega arith
-spanned d at n p (m ∷ ms) x = let y = spanned d (at + (2 + length m)) (n + 1) (p + (2 + length m)) ms x.4 in omega arith
+spanned d at n p (m ∷ ms) x = omega (arith, spanned d (at + (2 + length m)) (n + 1) (p + (2 + length m)) ms x.4)
 
 module _ (e : Expected) (d : List ℕ) (s : Plain) (law : Accepted e d s) where
-  pub behind_header : 40 + span s.messages ≡ length d
+  behind_header : 40 + span s.messages ≡ length d
   behind_header = spanned d 40 s.header.first s.header.offset s.messages law.laid_out
 
   abbrev said : Line
@@ -31,16 +31,12 @@ module _ (e : Expected) (d : List ℕ) (s : Plain) (law : Accepted e d s) where
 
   some_messages : (us : List Placed) (ms : List (List ℕ)) → ms ≡ s.messages
       → messages us ≡ carried (numbered s.header.first s.header.offset ms) → said ≡ segment_line s.header ms
-  some_messages us [] q c = let z : ◌≡◌ {A = ℕ} 0 1 = cc in absurd (omega arith)
+  some_messages us [] q c = cc
   some_messages us (m ∷ ms) q c =
-      let b = behind_header in
-      let l = ap span q in
-      let k = ap length q in
-      let n = law.counted in
-      let last_is : (s.header.first + s.header.count) - 1 ≡ s.header.first + length ms = omega arith in
-      let bytes_is : length d - 40 ≡ span (m ∷ ms) = omega arith in
-      let count_is : s.header.count ≡ length (m ∷ ms) = omega arith in
-      λ i. Messages (record { first = s.header.first; last = last_is i; count = count_is i; offset = s.header.offset; bytes = bytes_is i })
+      let last_is : (s.header.first + s.header.count) - 1 ≡ s.header.first + length ms = omega (arith, law.counted, ap length q) in
+      let bytes_is : length d - 40 ≡ span (m ∷ ms) = omega (arith, behind_header, ap span q) in
+      let count_is : s.header.count ≡ length (m ∷ ms) = omega (arith, law.counted, ap length q) in
+      cc
 
   pub messages_line : (us : List Placed) → messages us ≡ carried (numbered s.header.first s.header.offset s.messages)
       → Ok s ≡ read_segment e d → said ≡ line_for (read_segment e d)

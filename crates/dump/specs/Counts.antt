@@ -1,5 +1,5 @@
 -- How much there is of everything in a list of lines.
-use Rattle.std.specs.Prelude.{ℕ, ◌+◌, ◌-◌, ◌^◌, min, List, [], ◌∷◌, ◌++◌, length, codes, decimal}
+use Rattle.std.specs.Prelude.{ℕ, ◌+◌, ◌-◌, ◌^◌, min, List, ◌++◌, length, codes, decimal, sum_by}
 use Rattle.dump.specs.declared.line.Line.{Line}
 use Rattle.dump.specs.declared.line.Line.TheVariants.{Refused, Heartbeat, Messages}
 use Rattle.dump.specs.declared.totals.Totals.{Totals}
@@ -14,11 +14,6 @@ counts_in (Refused f) = counted 0 0 1 0
 counts_in (Heartbeat n) = counted 1 1 0 0
 counts_in (Messages x) = counted 1 0 0 x.count
 
--- what some lines count for together
-abbrev pub sum_of : (Line → ℕ) → List Line → ℕ
-sum_of f [] = 0
-sum_of f (l ∷ ls) = f l + sum_of f ls
-
 -- counts stop at the largest number of 64 bits
 abbrev pub capped : ℕ → ℕ
 capped n = min n (2 ^ 64 - 1)
@@ -28,10 +23,10 @@ abbrev pub totals_of : List Line → Totals
 totals_of ls =
     record {
       records = capped (length ls);
-      segments = capped (sum_of (λ l. (counts_in l).segments) ls);
-      heartbeats = capped (sum_of (λ l. (counts_in l).heartbeats) ls);
-      refusals = capped (sum_of (λ l. (counts_in l).refusals) ls);
-      messages = capped (sum_of (λ l. (counts_in l).messages) ls);
+      segments = capped (sum_by (λ l. (counts_in l).segments) ls);
+      heartbeats = capped (sum_by (λ l. (counts_in l).heartbeats) ls);
+      refusals = capped (sum_by (λ l. (counts_in l).refusals) ls);
+      messages = capped (sum_by (λ l. (counts_in l).messages) ls);
     }
 
 -- the counts with one line more

@@ -1,9 +1,10 @@
 // What the program is asked to read.
 ghost use Rattle.dump.specs.Arguments.{ReadsNumber, ReadsUpTo};
 
-use anyhow::anyhow;
+use anyhow::{anyhow, ensure};
 use std::env;
 use std::num::ParseIntError;
+use std::rt::Env;
 use wire::address::Expected;
 
 // The message protocol and the channel that are read where no argument names another.
@@ -23,7 +24,7 @@ fn number(text: &str) -> Result<u32, ParseIntError>
 {
     match text.strip_prefix("0x") {
         Some(digits) => u32::from_str_radix(digits, 16),
-        None => u32::from_str_radix(text, 10),
+        None => text.parse(),
     }
 }
 
@@ -31,30 +32,30 @@ fn number(text: &str) -> Result<u32, ParseIntError>
 fn number_up_to(most: u32, text: &str, wrong: &str) -> anyhow::Result<u32>
     ensures { ReadsUpTo most text.now result }
 {
-    let Ok(n) = number(text) else {
-        return Err(anyhow!("{wrong}"));
-    };
-    if n > most {
-        return Err(anyhow!("{wrong}"));
+    match number(text) {
+        Ok(n) if n <= most => Ok(n),
+        _ => Err(anyhow!("{wrong}")),
     }
-    Ok(n)
 }
 
 // The protocol and the channel of the arguments, and any session.
-pub fn expected(rt: &HostRuntime) -> anyhow::Result<Expected> {
-    let mut args = env::args(rt)?;
-    let _ = args.next();
+pub fn expected(rt: &(impl Env + Alloc)) -> anyhow::Result<Expected> {
+    let mut args = env::args(rt)?.skip(1);
     let protocol = match args.next() {
-        Some(text) => number_up_to(65535, text.as_str(), WRONG_PROTOCOL)? as u16,
+        Some(text) => {
+            let n = number_up_to(u32::from(u16::MAX), text.as_str(), WRONG_PROTOCOL)?;
+            u16::try_from(n)?
+        }
         None => PROTOCOL,
     };
     let channel = match args.next() {
         Some(text) => number_up_to(u32::MAX, text.as_str(), WRONG_CHANNEL)?,
         None => CHANNEL,
     };
-    if args.next().is_some() {
-        return Err(anyhow!("usage: dump [PROTOCOL [CHANNEL]] < CAPTURE"));
-    }
+    ensure!(
+        args.next().is_none(),
+        "usage: dump [PROTOCOL [CHANNEL]] < CAPTURE"
+    );
     Ok(Expected {
         protocol,
         channel,

@@ -1,7 +1,6 @@
 // Following a capture as it is read.
 ghost use Rattle.std.specs.Prelude.{◌≡◌, IfOk};
-ghost use Rattle.capture.specs.Intakes.{held_bytes};
-ghost use Rattle.dump.specs.Reports.{view, FollowsOn};
+ghost use Rattle.dump.specs.Reports.{FollowsOn};
 
 use crate::report::Report;
 use capture::intake::Intake;
@@ -14,7 +13,7 @@ pub fn follow<R: Read>(
     source: &mut R,
 ) -> anyhow::Result<usize>
     ensures expected { report.new.expected ≡ report.old.expected }
-    ensures follows { IfOk result (λ n. FollowsOn report.old.expected (held_bytes intake.old) (view report.old).totals (held_bytes intake.new) (view report.new).totals n) }
+    ensures follows { IfOk result (λ n. FollowsOn intake.old report.old intake.new report.new n) }
 {
     let n = intake.fill(source)?;
     let used = report.add_records(intake.bytes())?;

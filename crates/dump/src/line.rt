@@ -9,7 +9,7 @@ use wire::fault::Fault;
 use wire::segment::{Content, HEADER_LEN, read};
 
 // The messages of a segment, in short.
-#[derive(Clone, Copy)]
+#[derive(Clone, Copy, Debug, PartialEq, Eq)]
 pub struct Extent {
     pub first: u64,
     pub last: u64,
@@ -22,7 +22,7 @@ pub struct Extent {
 }
 
 // A record's line.
-#[derive(Clone, Copy)]
+#[derive(Clone, Copy, Debug, PartialEq, Eq)]
 pub enum Line {
     Refused(Fault),
     // the number of the next message
@@ -59,16 +59,11 @@ impl fmt::Display for Line {
         match self {
             Line::Refused(fault) => write!(f, "refused, {fault}"),
             Line::Heartbeat(next) => write!(f, "heartbeat, next {next}"),
-            Line::Messages(extent) => {
-                let first = extent.first;
-                let last = extent.last;
-                let offset = extent.offset;
-                let bytes = extent.bytes;
-                write!(
-                    f,
-                    "messages {first} to {last}, offset {offset}, bytes {bytes}"
-                )
-            }
+            Line::Messages(extent) => write!(
+                f,
+                "messages {} to {}, offset {}, bytes {}",
+                extent.first, extent.last, extent.offset, extent.bytes
+            ),
         }
     }
 }

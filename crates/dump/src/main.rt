@@ -13,12 +13,13 @@ use follow::follow;
 use report::Report;
 use std::io::Write;
 
-fn run(rt: &HostRuntime) -> anyhow::Result<()> {
-    let expected = expected(rt)?;
+fn main(rt: HostRuntime) -> anyhow::Result<()> {
+    let expected = expected(&rt)?;
     let mut intake = Intake::new(rt.alloc())?;
     let mut report = Report::new(rt.alloc(), expected);
     let mut input = rt.stdin();
     let mut output = rt.stdout();
+    // To the input's end, which comes before that many reads. A loop without a bound would need `Wait`.
     for _ in 0..u64::MAX {
         if follow(&mut intake, &mut report, &mut input)? == 0 {
             break;
@@ -29,8 +30,4 @@ fn run(rt: &HostRuntime) -> anyhow::Result<()> {
     report.finish(intake.bytes())?;
     output.write_all(report.text().as_bytes())?;
     Ok(())
-}
-
-fn main(rt: HostRuntime) -> anyhow::Result<()> {
-    run(&rt)
 }

@@ -6,7 +6,7 @@ use crate::line::Line;
 use std::fmt;
 
 // Counts that stop at the largest `u64`. Heartbeats are segments too.
-#[derive(Clone, Copy)]
+#[derive(Clone, Copy, Debug, Default, PartialEq, Eq)]
 pub struct Totals {
     pub records: u64,
     pub segments: u64,
@@ -16,33 +16,25 @@ pub struct Totals {
 }
 
 impl Totals {
-    pub fn new() -> Totals
-        ensures { result ≡ totals_of [] }
-    {
-        Totals {
-            records: 0,
-            segments: 0,
-            heartbeats: 0,
-            refusals: 0,
-            messages: 0,
-        }
-    }
-
     // The counts of one record.
     fn of(line: &Line) -> Totals
         ensures { result ≡ counts_in line.now }
     {
-        let (segments, heartbeats, refusals, messages) = match line {
-            Line::Refused(_) => (0, 0, 1, 0),
-            Line::Heartbeat(_) => (1, 1, 0, 0),
-            Line::Messages(extent) => (1, 0, 0, u64::from(extent.count)),
-        };
-        Totals {
+        let one = Totals {
             records: 1,
-            segments,
-            heartbeats,
-            refusals,
-            messages,
+            ..Totals::default()
+        };
+        let segment = Totals { segments: 1, ..one };
+        match line {
+            Line::Refused(_) => Totals { refusals: 1, ..one },
+            Line::Heartbeat(_) => Totals {
+                heartbeats: 1,
+                ..segment
+            },
+            Line::Messages(extent) => Totals {
+                messages: u64::from(extent.count),
+                ..segment
+            },
         }
     }
 
@@ -64,14 +56,10 @@ impl fmt::Display for Totals {
     ghost output = { λ t. Some (totals_text t) };
 
     fn fmt<W: fmt::Write>(&self, f: &mut fmt::Formatter<W>) -> fmt::Result {
-        let records = self.records;
-        let segments = self.segments;
-        let heartbeats = self.heartbeats;
-        let refusals = self.refusals;
-        let messages = self.messages;
         write!(
             f,
-            "records {records}, segments {segments}, heartbeats {heartbeats}, refusals {refusals}, messages {messages}"
+            "records {}, segments {}, heartbeats {}, refusals {}, messages {}",
+            self.records, self.segments, self.heartbeats, self.refusals, self.messages
         )
     }
 }
