@@ -1,0 +1,13 @@
+-- How many messages a cursor hands out at most.
+use Rattle.std.proofs.Common.{ℕ, zero, suc, ◌+◌, ◌≤◌, List, ◌∷◌, length, Ok, Err, Result, arith}
+use Rattle.wire.specs.declared.fault.Fault.{Fault}
+use Rattle.wire.specs.Blocks.{first_block}
+use Rattle.wire.specs.Cursor.{placed_at, wrap, if_ok, unread_from}
+
+pub unread_at_most : (left n at : ℕ) (bs : List ℕ) → length (unread_from left n at bs) ≤ left
+unread_at_most zero n at bs = omega arith
+unread_at_most (suc left) n at bs = step (first_block at bs) (unread_at_most left)
+  where
+    step : (r : Result (List ℕ × List ℕ) Fault) → ((n at : ℕ) (bs : List ℕ) → length (unread_from left n at bs) ≤ left) → length (if_ok r (λ p. placed_at n at p.0 ∷ unread_from left (wrap (n + 1)) (wrap (at + (2 + length p.0))) p.1)) ≤ suc left
+    step (Err e) more = omega arith
+    step (Ok p) more = omega (arith, more (wrap (n + 1)) (wrap (at + (2 + length p.0))) p.1)
