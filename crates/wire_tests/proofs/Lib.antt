@@ -1,1 +1,1 @@
-pub mod Cursor
+mod Cursor

@@ -43,7 +43,7 @@ const BY_STREAM_AFTER_9: ExpectedRequest = ExpectedRequest {
 // The first bytes of a right header: version, reserved byte, protocol, channel, session.
 const FRONT: Patch = (0, &[1, 0, 4, 0x80, 1, 0, 0, 0, 0, 0, 0x87, 0x42]);
 
-// Writes bytes over parts of an input, one patch after another, as far as there is room.
+// Writes bytes over parts of an input, patch after patch, as far as there is room.
 fn put(input: &mut [u8], patches: &[Patch]) {
     for (at, bytes) in patches {
         for (place, byte) in input.iter_mut().skip(*at).zip(*bytes) {
@@ -52,65 +52,70 @@ fn put(input: &mut [u8], patches: &[Patch]) {
     }
 }
 
-// An input that is right but for the patches: the front of a header, the rest of it, and 0 behind it.
+// An input of the front of a right header, its other fields and 0 behind them, and then the patches.
 fn input(
     heap: Global,
     length: usize,
-    rest: &[Patch],
+    fields: &[Patch],
     patches: &[Patch],
 ) -> Result<Vec<u8>, AllocError> {
     let mut bytes = vec![in heap; 0u8; length]?;
     put(&mut bytes, &[FRONT]);
-    put(&mut bytes, rest);
+    put(&mut bytes, fields);
     put(&mut bytes, patches);
     Ok(bytes)
 }
 
-// What the reader of segments answers to a datagram that is right but for the patches: how many messages it hands out, as many as
-// the header says.
+// How many messages the reader of segments hands out, which must be as many as the header says.
 #[tactic(auto, using(crate::proofs::Cursor::unread_at_most))]
+fn segment_answer(rt: &impl Abort, datagram: &[u8]) -> Answer {
+    let segment = read(datagram, &EXPECTED).map_err(number_and_place)?;
+    let handed = segment.content.messages().count();
+    assert_eq!(rt; handed, usize::from(segment.header.count));
+    Ok(handed)
+}
+
+// What is answered to a datagram that is right but for the patches.
 fn segments(
     rt: &(impl Abort + AllocGlobal),
     length: usize,
     patches: &[Patch],
 ) -> Result<Answer, AllocError> {
     let payload = ((length.saturating_sub(40) % 65536) as u16).to_le_bytes();
-    let right = [(12, payload.as_slice()), (24, &[1])];
-    let datagram = input(rt.alloc(), length, &right, patches)?;
-    let answer = read(&datagram, &EXPECTED).map(|segment| {
-        let handed = segment.content.messages().count();
-        assert_eq!(rt; handed, usize::from(segment.header.count));
-        handed
-    });
-    Ok(answer.map_err(number_and_place))
+    let datagram = input(rt.alloc(), length, &[(12, &payload), (24, &[1])], patches)?;
+    Ok(segment_answer(rt, &datagram))
 }
 
-// What the reader of requests answers: how many ranges it hands out.
+// How many ranges the reader of requests hands out.
 fn request_answer<K: RangeKind>(request: &[u8], expected: &ExpectedRequest) -> Answer {
-    request::read::<K>(request, expected)
-        .map(|ranges| ranges.count())
-        .map_err(number_and_place)
+    let ranges = request::read::<K>(request, expected).map_err(number_and_place)?;
+    Ok(ranges.count())
 }
 
-// The same, to a request that is right but for the patches.
-fn requests<K: RangeKind>(
-    heap: Global,
-    expected: &ExpectedRequest,
-    length: usize,
-    patches: &[Patch],
-) -> Result<Answer, AllocError> {
+// A request that is right but for the patches.
+fn request_input(heap: Global, length: usize, patches: &[Patch]) -> Result<Vec<u8>, AllocError> {
     let ranges = ((length.saturating_sub(16) / 16 % 65536) as u16).to_le_bytes();
-    let right = [(1, [1].as_slice()), (12, &ranges)];
-    let request = input(heap, length, &right, patches)?;
-    Ok(request_answer::<K>(&request, expected))
+    input(heap, length, &[(1, &[1]), (12, &ranges)], patches)
 }
 
-fn requests_by_numbers(
+// What a datagram server answers to it.
+fn requests<K: RangeKind>(
     rt: &impl AllocGlobal,
     length: usize,
     patches: &[Patch],
 ) -> Result<Answer, AllocError> {
-    requests::<ByNumbers>(rt.alloc(), &BY_DATAGRAM, length, patches)
+    let request = request_input(rt.alloc(), length, patches)?;
+    Ok(request_answer::<K>(&request, &BY_DATAGRAM))
+}
+
+// What is answered to it on a stream, where 9 was requested before.
+fn stream_requests(
+    rt: &impl AllocGlobal,
+    length: usize,
+    patches: &[Patch],
+) -> Result<Answer, AllocError> {
+    let request = request_input(rt.alloc(), length, patches)?;
+    Ok(request_answer::<ByNumbers>(&request, &BY_STREAM_AFTER_9))
 }
 
 // Each case has the answer of its table, from a reader that is given the case's length and patches.
@@ -147,19 +152,19 @@ fn first_wins<R: Abort, F: Fn(&R, usize, &[Patch]) -> Result<Answer, AllocError>
 #[test]
 fn sizes(rt: HostRuntime) -> Result<(), Fail> {
     all_agree(&rt, &SIZES, segments)?;
-    all_agree(&rt, &REQUEST_SIZES, requests_by_numbers)
+    all_agree(&rt, &REQUEST_SIZES, requests::<ByNumbers>)
 }
 
 #[test]
 fn fields(rt: HostRuntime) -> Result<(), Fail> {
     all_agree(&rt, &FIELDS, segments)?;
-    all_agree(&rt, &REQUEST_FIELDS, requests_by_numbers)
+    all_agree(&rt, &REQUEST_FIELDS, requests::<ByNumbers>)
 }
 
 #[test]
 fn pairs(rt: HostRuntime) -> Result<(), Fail> {
     first_wins(&rt, &WRONGS, 40, segments)?;
-    first_wins(&rt, &REQUEST_WRONGS, 16, requests_by_numbers)?;
+    first_wins(&rt, &REQUEST_WRONGS, 16, requests::<ByNumbers>)?;
     all_agree(&rt, &PAIRS, segments)
 }
 
@@ -170,21 +175,9 @@ fn blocks(rt: HostRuntime) -> Result<(), Fail> {
 
 #[test]
 fn ranges(rt: HostRuntime) -> Result<(), Fail> {
-    let by_bytes = |rt: &HostRuntime, length, patches: &[Patch]| requests::<ByBytes>(
-        rt.alloc(),
-        &BY_DATAGRAM,
-        length,
-        patches,
-    );
-    let on_stream = |rt: &HostRuntime, length, patches: &[Patch]| requests::<ByNumbers>(
-        rt.alloc(),
-        &BY_STREAM_AFTER_9,
-        length,
-        patches,
-    );
-    all_agree(&rt, &RANGES, requests_by_numbers)?;
-    all_agree(&rt, &BYTE_RANGES, by_bytes)?;
-    all_agree(&rt, &STREAM_REQUESTS, on_stream)
+    all_agree(&rt, &RANGES, requests::<ByNumbers>)?;
+    all_agree(&rt, &BYTE_RANGES, requests::<ByBytes>)?;
+    all_agree(&rt, &STREAM_REQUESTS, stream_requests)
 }
 
 #[test]
