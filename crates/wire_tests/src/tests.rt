@@ -143,7 +143,8 @@ fn first_wins<R: Abort, F: Fn(&R, usize, &[Patch]) -> Result<Answer, AllocError>
 {
     for (i, (first, expected)) in wrongs.iter().enumerate() {
         for (other, _) in wrongs.iter().skip(i) {
-            assert_eq!(rt; answer(rt, shortest, &[*first, *other])?, *expected);
+            let answer = answer(rt, shortest, &[*first, *other])?;
+            assert_eq!(rt; answer, *expected, "{first:?}, {other:?}");
         }
     }
     Ok(())

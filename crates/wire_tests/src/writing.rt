@@ -87,7 +87,11 @@ fn segment_numbers(rt: HostRuntime) {
         (1, 1, LONG_MAX - 2, one, Ok(42)),
     ] {
         let header = numbered(count, first, offset);
-        assert_eq!(rt; written(&mut out, &header, bodies), answer, "{header:?}");
+        assert_eq!(rt;
+            written(&mut out, &header, bodies),
+            answer,
+            "{count}, {first}, {offset}"
+        );
     }
 }
 
