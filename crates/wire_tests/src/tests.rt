@@ -92,42 +92,37 @@ fn request_answer<K: RangeKind>(request: &[u8], expected: &ExpectedRequest) -> A
     Ok(ranges.count())
 }
 
-// A request that is right but for the patches.
-fn request_input(heap: Global, length: usize, patches: &[Patch]) -> Result<Vec<u8>, AllocError> {
-    let ranges = ((length.saturating_sub(16) / 16 % 65536) as u16).to_le_bytes();
-    input(heap, length, &[(1, &[1]), (12, &ranges)], patches)
-}
-
-// What a datagram server answers to it.
+// What is answered to a request that is right but for the patches.
 fn requests<K: RangeKind>(
-    rt: &impl AllocGlobal,
+    heap: Global,
+    expected: &ExpectedRequest,
     length: usize,
     patches: &[Patch],
 ) -> Result<Answer, AllocError> {
-    let request = request_input(rt.alloc(), length, patches)?;
-    Ok(request_answer::<K>(&request, &BY_DATAGRAM))
+    let ranges = ((length.saturating_sub(16) / 16 % 65536) as u16).to_le_bytes();
+    let request = input(heap, length, &[(1, &[1]), (12, &ranges)], patches)?;
+    Ok(request_answer::<K>(&request, expected))
 }
 
-// What is answered to it on a stream, where 9 was requested before.
-fn stream_requests(
+// The same, by datagrams, where nothing was requested before.
+fn datagram_requests<K: RangeKind>(
     rt: &impl AllocGlobal,
     length: usize,
     patches: &[Patch],
 ) -> Result<Answer, AllocError> {
-    let request = request_input(rt.alloc(), length, patches)?;
-    Ok(request_answer::<ByNumbers>(&request, &BY_STREAM_AFTER_9))
+    requests::<K>(rt.alloc(), &BY_DATAGRAM, length, patches)
 }
 
 // Each case has the answer of its table, from a reader that is given the case's length and patches.
 fn all_agree<R: Abort, F: Fn(&R, usize, &[Patch]) -> Result<Answer, AllocError>>(
     rt: &R,
     cases: &[Case],
-    answer: F,
+    reader: F,
 ) -> Result<(), Fail>
-    requires { F.IsAlwaysCallable answer }
+    requires { F.IsAlwaysCallable reader }
 {
     for (name, length, patches, expected) in cases {
-        assert_eq!(rt; answer(rt, *length, patches)?, *expected, "{name}");
+        assert_eq!(rt; reader(rt, *length, patches)?, *expected, "{name}");
     }
     Ok(())
 }
@@ -137,13 +132,13 @@ fn first_wins<R: Abort, F: Fn(&R, usize, &[Patch]) -> Result<Answer, AllocError>
     rt: &R,
     wrongs: &[Wrong],
     shortest: usize,
-    answer: F,
+    reader: F,
 ) -> Result<(), Fail>
-    requires { F.IsAlwaysCallable answer }
+    requires { F.IsAlwaysCallable reader }
 {
     for (i, (first, expected)) in wrongs.iter().enumerate() {
         for (other, _) in wrongs.iter().skip(i) {
-            let answer = answer(rt, shortest, &[*first, *other])?;
+            let answer = reader(rt, shortest, &[*first, *other])?;
             assert_eq!(rt; answer, *expected, "{first:?}, {other:?}");
         }
     }
@@ -153,19 +148,19 @@ fn first_wins<R: Abort, F: Fn(&R, usize, &[Patch]) -> Result<Answer, AllocError>
 #[test]
 fn sizes(rt: HostRuntime) -> Result<(), Fail> {
     all_agree(&rt, &SIZES, segments)?;
-    all_agree(&rt, &REQUEST_SIZES, requests::<ByNumbers>)
+    all_agree(&rt, &REQUEST_SIZES, datagram_requests::<ByNumbers>)
 }
 
 #[test]
 fn fields(rt: HostRuntime) -> Result<(), Fail> {
     all_agree(&rt, &FIELDS, segments)?;
-    all_agree(&rt, &REQUEST_FIELDS, requests::<ByNumbers>)
+    all_agree(&rt, &REQUEST_FIELDS, datagram_requests::<ByNumbers>)
 }
 
 #[test]
 fn pairs(rt: HostRuntime) -> Result<(), Fail> {
     first_wins(&rt, &WRONGS, 40, segments)?;
-    first_wins(&rt, &REQUEST_WRONGS, 16, requests::<ByNumbers>)?;
+    first_wins(&rt, &REQUEST_WRONGS, 16, datagram_requests::<ByNumbers>)?;
     all_agree(&rt, &PAIRS, segments)
 }
 
@@ -176,9 +171,11 @@ fn blocks(rt: HostRuntime) -> Result<(), Fail> {
 
 #[test]
 fn ranges(rt: HostRuntime) -> Result<(), Fail> {
-    all_agree(&rt, &RANGES, requests::<ByNumbers>)?;
-    all_agree(&rt, &BYTE_RANGES, requests::<ByBytes>)?;
-    all_agree(&rt, &STREAM_REQUESTS, stream_requests)
+    all_agree(&rt, &RANGES, datagram_requests::<ByNumbers>)?;
+    all_agree(&rt, &BYTE_RANGES, datagram_requests::<ByBytes>)?;
+    all_agree(&rt, &STREAM_REQUESTS, |rt, length, patches| {
+        requests::<ByNumbers>(rt.alloc(), &BY_STREAM_AFTER_9, length, patches)
+    })
 }
 
 #[test]
