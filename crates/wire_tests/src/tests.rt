@@ -1,6 +1,8 @@
 // What the readers answer.
-use crate::cases::{Answer, BLOCKS, Case, FIELDS, PAIRS, Patch, SIZES, WRONGS, Wrong};
-use crate::example::{REQUEST, SEGMENT, TEST_REQUEST};
+use crate::cases::{
+    Answer, BLOCKS, Case, FIELDS, PAIRS, Patch, SIZES, WRONGS, Wrong, number_and_place,
+};
+use crate::example::{REQUEST, REQUEST_RANGES, SEGMENT, TEST_REQUEST};
 use crate::request_cases::{
     BYTE_RANGES, RANGES, REQUEST_FIELDS, REQUEST_SIZES, REQUEST_WRONGS, STREAM_REQUESTS,
 };
@@ -10,7 +12,7 @@ use std::test::Fail;
 use wire::address::{Address, Expected};
 use wire::fault::Refusal;
 use wire::request;
-use wire::request::{ByBytes, ByNumbers, ExpectedRequest, RangeKind, Transport};
+use wire::request::{ByBytes, ByNumbers, ExpectedRequest, Range, RangeKind, Transport};
 use wire::segment::{Content, read};
 
 pub const ADDRESS: Address = Address {
@@ -41,197 +43,156 @@ const BY_STREAM_AFTER_9: ExpectedRequest = ExpectedRequest {
 // The first bytes of a right header: version, reserved byte, protocol, channel, session.
 const FRONT: Patch = (0, &[1, 0, 4, 0x80, 1, 0, 0, 0, 0, 0, 0x87, 0x42]);
 
-// Writes bytes over a part of a datagram, as far as there is room.
-fn put(datagram: &mut Vec<u8>, at: usize, bytes: &[u8]) {
-    for (i, b) in bytes.iter().enumerate() {
-        if let Some(place) = datagram.get_mut(at.saturating_add(i)) {
-            *place = *b;
+// Writes bytes over parts of an input, patch after patch, as far as there is room.
+fn put(input: &mut [u8], patches: &[Patch]) {
+    for (at, bytes) in patches {
+        for (place, byte) in input.iter_mut().skip(*at).zip(*bytes) {
+            *place = *byte;
         }
     }
 }
 
-// A reader under test.
-trait Reading {
-    // how many bytes the shortest input has with which nothing is wrong
-    const SHORTEST: usize;
-
-    // An input that is right but for the patches: a request, unless the reader is of something else.
-    fn input(heap: Global, length: usize, patches: &[Patch]) -> Result<Vec<u8>, AllocError> {
-        request_input(heap, length, patches)
-    }
-
-    fn agrees(input: &[u8], answer: Answer) -> bool;
-}
-
-struct Segments;
-
-impl Reading for Segments {
-    const SHORTEST: usize = 40;
-
-    fn input(heap: Global, length: usize, patches: &[Patch]) -> Result<Vec<u8>, AllocError> {
-        let mut bytes = vec![in heap; 0u8; length]?;
-        let payload = length.saturating_sub(40) % 65536;
-        put(&mut bytes, FRONT.0, FRONT.1);
-        put(&mut bytes, 12, &(payload as u16).to_le_bytes());
-        put(&mut bytes, 24, &[1]);
-        for patch in patches {
-            put(&mut bytes, patch.0, patch.1);
-        }
-        Ok(bytes)
-    }
-
-    fn agrees(input: &[u8], answer: Answer) -> bool {
-        match (read(input, &EXPECTED), answer) {
-            (Ok(segment), Answer::Accepted(count)) => {
-                let mut handed = 0u16;
-                for _ in segment.content.messages() {
-                    handed = handed.saturating_add(1);
-                }
-                handed == count && segment.header.count == count
-            }
-            (Err(fault), Answer::Refused(number, place)) => {
-                fault.refusal.number() == number && fault.place == place
-            }
-            _ => false,
-        }
-    }
-}
-
-fn request_input(heap: Global, length: usize, patches: &[Patch]) -> Result<Vec<u8>, AllocError> {
+// An input of the front of a right header, its other fields and 0 behind them, and then the patches.
+fn input(
+    heap: Global,
+    length: usize,
+    fields: &[Patch],
+    patches: &[Patch],
+) -> Result<Vec<u8>, AllocError> {
     let mut bytes = vec![in heap; 0u8; length]?;
-    let ranges = length.saturating_sub(16) / 16 % 65536;
-    put(&mut bytes, FRONT.0, FRONT.1);
-    put(&mut bytes, 1, &[1]);
-    put(&mut bytes, 12, &(ranges as u16).to_le_bytes());
-    for patch in patches {
-        put(&mut bytes, patch.0, patch.1);
-    }
+    put(&mut bytes, &[FRONT]);
+    put(&mut bytes, fields);
+    put(&mut bytes, patches);
     Ok(bytes)
 }
 
-fn request_agrees<K: RangeKind>(input: &[u8], expected: &ExpectedRequest, answer: Answer) -> bool {
-    match (request::read::<K>(input, expected), answer) {
-        (Ok(ranges), Answer::Accepted(count)) => {
-            let mut handed = 0u16;
-            for _ in ranges {
-                handed = handed.saturating_add(1);
-            }
-            handed == count
-        }
-        (Err(fault), Answer::Refused(number, place)) => {
-            fault.refusal.number() == number && fault.place == place
-        }
-        _ => false,
-    }
+// How many messages the reader of segments hands out, which must be as many as the header says.
+#[tactic(auto, using(crate::proofs::Cursor::unread_at_most))]
+fn segment_answer(rt: &impl Abort, datagram: &[u8]) -> Answer {
+    let segment = read(datagram, &EXPECTED).map_err(number_and_place)?;
+    let handed = segment.content.messages().count();
+    assert_eq!(rt; handed, usize::from(segment.header.count));
+    Ok(handed)
 }
 
-struct RequestsByNumbers;
-
-impl Reading for RequestsByNumbers {
-    const SHORTEST: usize = 16;
-
-    fn agrees(input: &[u8], answer: Answer) -> bool {
-        request_agrees::<ByNumbers>(input, &BY_DATAGRAM, answer)
-    }
+// What is answered to a datagram that is right but for the patches.
+fn segments(
+    rt: &(impl Abort + AllocGlobal),
+    length: usize,
+    patches: &[Patch],
+) -> Result<Answer, AllocError> {
+    let payload = ((length.saturating_sub(40) % 65536) as u16).to_le_bytes();
+    let datagram = input(rt.alloc(), length, &[(12, &payload), (24, &[1])], patches)?;
+    Ok(segment_answer(rt, &datagram))
 }
 
-struct RequestsByBytes;
-
-impl Reading for RequestsByBytes {
-    const SHORTEST: usize = 16;
-
-    fn agrees(input: &[u8], answer: Answer) -> bool {
-        request_agrees::<ByBytes>(input, &BY_DATAGRAM, answer)
-    }
+// How many ranges the reader of requests hands out.
+fn request_answer<K: RangeKind>(request: &[u8], expected: &ExpectedRequest) -> Answer {
+    let ranges = request::read::<K>(request, expected).map_err(number_and_place)?;
+    Ok(ranges.count())
 }
 
-struct StreamRequests;
-
-impl Reading for StreamRequests {
-    const SHORTEST: usize = 32;
-
-    fn agrees(input: &[u8], answer: Answer) -> bool {
-        request_agrees::<ByNumbers>(input, &BY_STREAM_AFTER_9, answer)
-    }
+// What is answered to a request that is right but for the patches.
+fn requests<K: RangeKind>(
+    heap: Global,
+    expected: &ExpectedRequest,
+    length: usize,
+    patches: &[Patch],
+) -> Result<Answer, AllocError> {
+    let ranges = ((length.saturating_sub(16) / 16 % 65536) as u16).to_le_bytes();
+    let request = input(heap, length, &[(1, &[1]), (12, &ranges)], patches)?;
+    Ok(request_answer::<K>(&request, expected))
 }
 
-fn all_agree<R: Reading>(rt: &impl Abort, heap: Global, cases: &[Case]) -> Result<(), Fail> {
-    for case in cases {
-        let bytes = R::input(heap, case.1, case.2)?;
-        assert!(rt; R::agrees(bytes.as_slice(), case.3), "{}", case.0);
+// The same, by datagrams, where nothing was requested before.
+fn datagram_requests<K: RangeKind>(
+    rt: &impl AllocGlobal,
+    length: usize,
+    patches: &[Patch],
+) -> Result<Answer, AllocError> {
+    requests::<K>(rt.alloc(), &BY_DATAGRAM, length, patches)
+}
+
+// Each case has the answer of its table, from a reader that is given the case's length and patches.
+fn all_agree<R: Abort, F: Fn(&R, usize, &[Patch]) -> Result<Answer, AllocError>>(
+    rt: &R,
+    cases: &[Case],
+    reader: F,
+) -> Result<(), Fail>
+    requires { F.IsAlwaysCallable reader }
+{
+    for (name, length, patches, expected) in cases {
+        assert_eq!(rt; reader(rt, *length, patches)?, *expected, "{name}");
     }
     Ok(())
 }
 
-// Wrong in the first way, alone or with one of the others: the answer to the first is given.
-fn first_wins<R: Reading>(
-    rt: &impl Abort,
-    heap: Global,
-    first: &Wrong,
-    others: &[Wrong],
-) -> Result<(), Fail> {
-    for other in others {
-        let bytes = R::input(heap, R::SHORTEST, &[first.0, other.0])?;
-        assert!(rt; R::agrees(bytes.as_slice(), first.1));
+// Wrong in one way, alone or with one of those that follow: the answer to the first is given.
+fn first_wins<R: Abort, F: Fn(&R, usize, &[Patch]) -> Result<Answer, AllocError>>(
+    rt: &R,
+    wrongs: &[Wrong],
+    shortest: usize,
+    reader: F,
+) -> Result<(), Fail>
+    requires { F.IsAlwaysCallable reader }
+{
+    for (i, (first, expected)) in wrongs.iter().enumerate() {
+        for (other, _) in wrongs.iter().skip(i) {
+            let answer = reader(rt, shortest, &[*first, *other])?;
+            assert_eq!(rt; answer, *expected, "{first:?}, {other:?}");
+        }
     }
     Ok(())
 }
 
 #[test]
 fn sizes(rt: HostRuntime) -> Result<(), Fail> {
-    all_agree::<Segments>(&rt, rt.alloc(), &SIZES)?;
-    all_agree::<RequestsByNumbers>(&rt, rt.alloc(), &REQUEST_SIZES)
+    all_agree(&rt, &SIZES, segments)?;
+    all_agree(&rt, &REQUEST_SIZES, datagram_requests::<ByNumbers>)
 }
 
 #[test]
 fn fields(rt: HostRuntime) -> Result<(), Fail> {
-    all_agree::<Segments>(&rt, rt.alloc(), &FIELDS)?;
-    all_agree::<RequestsByNumbers>(&rt, rt.alloc(), &REQUEST_FIELDS)
+    all_agree(&rt, &FIELDS, segments)?;
+    all_agree(&rt, &REQUEST_FIELDS, datagram_requests::<ByNumbers>)
 }
 
 #[test]
 fn pairs(rt: HostRuntime) -> Result<(), Fail> {
-    for i in 0..WRONGS.len() {
-        first_wins::<Segments>(&rt, rt.alloc(), &WRONGS[i], &WRONGS[i..])?;
-    }
-    for i in 0..REQUEST_WRONGS.len() {
-        first_wins::<RequestsByNumbers>(&rt, rt.alloc(), &REQUEST_WRONGS[i], &REQUEST_WRONGS[i..])?;
-    }
-    all_agree::<Segments>(&rt, rt.alloc(), &PAIRS)
+    first_wins(&rt, &WRONGS, 40, segments)?;
+    first_wins(&rt, &REQUEST_WRONGS, 16, datagram_requests::<ByNumbers>)?;
+    all_agree(&rt, &PAIRS, segments)
 }
 
 #[test]
 fn blocks(rt: HostRuntime) -> Result<(), Fail> {
-    all_agree::<Segments>(&rt, rt.alloc(), &BLOCKS)
+    all_agree(&rt, &BLOCKS, segments)
 }
 
 #[test]
 fn ranges(rt: HostRuntime) -> Result<(), Fail> {
-    all_agree::<RequestsByNumbers>(&rt, rt.alloc(), &RANGES)?;
-    all_agree::<RequestsByBytes>(&rt, rt.alloc(), &BYTE_RANGES)?;
-    all_agree::<StreamRequests>(&rt, rt.alloc(), &STREAM_REQUESTS)
+    all_agree(&rt, &RANGES, datagram_requests::<ByNumbers>)?;
+    all_agree(&rt, &BYTE_RANGES, datagram_requests::<ByBytes>)?;
+    all_agree(&rt, &STREAM_REQUESTS, |rt, length, patches| {
+        requests::<ByNumbers>(rt.alloc(), &BY_STREAM_AFTER_9, length, patches)
+    })
 }
 
 #[test]
 fn example_request(rt: HostRuntime) -> Result<(), Fail> {
-    let Ok(mut ranges) = request::read::<ByNumbers>(&REQUEST, &BY_DATAGRAM) else {
-        return Err(Fail::new("refused"));
-    };
-    let (Some(first), Some(second)) = (ranges.next(), ranges.next()) else {
-        return Err(Fail::new("two ranges"));
-    };
-    assert!(rt; ranges.next().is_none());
-    assert!(rt; first.first == 12_340 && first.last == 12_350);
-    assert!(rt; second.first == 56_789 && second.last == 56_799);
-    assert!(rt; request_agrees::<ByNumbers>(&TEST_REQUEST, &BY_DATAGRAM, Answer::Accepted(0)));
+    let ranges = request::read::<ByNumbers>(&REQUEST, &BY_DATAGRAM)?;
+    let ranges: Vec<Range> = ranges.collect(rt.alloc())?;
+    assert_eq!(rt; ranges.as_slice(), REQUEST_RANGES.as_slice());
+    assert_eq!(rt;
+        request_answer::<ByNumbers>(&TEST_REQUEST, &BY_DATAGRAM),
+        Ok(0)
+    );
     Ok(())
 }
 
 #[test]
 fn example_header(rt: HostRuntime) -> Result<(), Fail> {
-    let Ok(segment) = read(&SEGMENT, &EXPECTED) else {
-        return Err(Fail::new("refused"));
-    };
+    let segment = read(&SEGMENT, &EXPECTED)?;
     let header = segment.header;
     assert_eq!(rt; header.address.protocol, 0x8004);
     assert_eq!(rt; header.address.channel, 1);
@@ -246,13 +207,10 @@ fn example_header(rt: HostRuntime) -> Result<(), Fail> {
 
 #[test]
 fn example_messages(rt: HostRuntime) -> Result<(), Fail> {
-    let Ok(segment) = read(&SEGMENT, &EXPECTED) else {
-        return Err(Fail::new("refused"));
-    };
+    let segment = read(&SEGMENT, &EXPECTED)?;
     let mut messages = segment.content.messages();
-    let (Some(trade), Some(update)) = (messages.next(), messages.next()) else {
-        return Err(Fail::new("two messages"));
-    };
+    let trade = messages.next().ok_or("no trade")?;
+    let update = messages.next().ok_or("no update")?;
     assert!(rt; messages.next().is_none());
     assert_eq!(rt; trade.number, 50_122);
     assert_eq!(rt; trade.place, 2_205_324);
@@ -277,13 +235,8 @@ fn heartbeat_and_any_session(rt: HostRuntime) -> Result<(), Fail> {
     heartbeat[12] = 0;
     heartbeat[14] = 0;
     assert!(rt; read(&SEGMENT, &other).is_err());
-    match read(&heartbeat[0..40], &any) {
-        Ok(segment) => {
-            assert!(rt; matches!(segment.content, Content::Heartbeat));
-            Ok(())
-        },
-        Err(_) => Err(Fail::new("refused")),
-    }
+    assert!(rt; matches!(read(&heartbeat[0..40], &any)?.content, Content::Heartbeat));
+    Ok(())
 }
 
 #[test]

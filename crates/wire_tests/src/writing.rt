@@ -1,11 +1,12 @@
 // What the writers answer and leave.
-use crate::example::{REQUEST, SEGMENT, TEST_REQUEST};
+use crate::cases::{Answer, number_and_place};
+use crate::example::{REQUEST, REQUEST_RANGES, SEGMENT, TEST_REQUEST};
 use crate::tests::{ADDRESS, BY_DATAGRAM, EXPECTED};
+use std::array;
 use std::test::Fail;
-use wire::fault::Fault;
 use wire::limits::LONG_MAX;
 use wire::request;
-use wire::request::{ByBytes, ByNumbers, Range};
+use wire::request::{ByBytes, ByNumbers, Range, RangeKind};
 use wire::segment::{Content, Header, read, write};
 
 const HEADER: Header = Header {
@@ -16,18 +17,14 @@ const HEADER: Header = Header {
     time: 0,
 };
 
-fn refused(answer: Result<usize, Fault>, number: u8) -> bool {
-    match answer {
-        Ok(_) => false,
-        Err(fault) => fault.refusal.number() == number && fault.place == 0,
-    }
+// What the writer of segments answers.
+fn written(out: &mut [u8], header: &Header, bodies: &[&[u8]]) -> Answer {
+    write(out, header, &bodies).map_err(number_and_place)
 }
 
-fn wrote(answer: Result<usize, Fault>, length: usize) -> bool {
-    match answer {
-        Ok(written) => written == length,
-        Err(_) => false,
-    }
+// What the writer of requests answers.
+fn requested<K: RangeKind>(out: &mut [u8], ranges: &[Range]) -> Answer {
+    request::write::<K>(out, &ADDRESS, ranges).map_err(number_and_place)
 }
 
 // The example segment, read with another reserved byte and written again; what stands behind it stays.
@@ -35,40 +32,30 @@ fn wrote(answer: Result<usize, Fault>, length: usize) -> bool {
 fn segment_written_again(rt: HostRuntime) -> Result<(), Fail> {
     let mut datagram = SEGMENT;
     datagram[1] = 7;
-    let Ok(segment) = read(&datagram, &EXPECTED) else {
-        return Err(Fail::new("refused"));
-    };
+    let segment = read(&datagram, &EXPECTED)?;
     let mut messages = segment.content.messages();
-    let (Some(trade), Some(update)) = (messages.next(), messages.next()) else {
-        return Err(Fail::new("two messages"));
-    };
-    let bodies: &[&[u8]] = &[trade.body, update.body];
+    let trade = messages.next().ok_or("no trade")?;
+    let update = messages.next().ok_or("no update")?;
+    let bodies = [trade.body, update.body];
     let mut out = [0xee; 115];
-    assert!(rt; wrote(write(&mut out, &segment.header, &bodies), 112));
+    assert_eq!(rt; written(&mut out, &segment.header, &bodies), Ok(112));
     assert_eq!(rt; &out[0..112], &SEGMENT[0..112]);
     assert_eq!(rt; &out[112..115], [0xee; 3].as_slice());
     let mut short = [0xee; 111];
-    assert!(rt; refused(write(&mut short, &segment.header, &bodies), 24));
+    assert_eq!(rt; written(&mut short, &segment.header, &bodies), Err((24, 0)));
     assert_eq!(rt; &short[0..111], [0xee; 111].as_slice());
     Ok(())
 }
 
 #[test]
 fn heartbeat_written(rt: HostRuntime) -> Result<(), Fail> {
-    let one: &[&[u8]] = &[b""];
-    let none = &one[0..0];
     let mut out = [0xee; 41];
-    assert!(rt; refused(write(&mut out[0..39], &HEADER, &none), 24));
+    assert_eq!(rt; written(&mut out[0..39], &HEADER, &[]), Err((24, 0)));
     assert_eq!(rt; &out[0..41], [0xee; 41].as_slice());
-    assert!(rt; wrote(write(&mut out, &HEADER, &none), 40));
+    assert_eq!(rt; written(&mut out, &HEADER, &[]), Ok(40));
     assert_eq!(rt; out[40], 0xee);
-    match read(&out[0..40], &EXPECTED) {
-        Ok(segment) => {
-            assert!(rt; matches!(segment.content, Content::Heartbeat));
-            Ok(())
-        },
-        Err(_) => Err(Fail::new("refused")),
-    }
+    assert!(rt; matches!(read(&out[0..40], &EXPECTED)?.content, Content::Heartbeat));
+    Ok(())
 }
 
 // A header with other numbers than `HEADER`.
@@ -87,16 +74,25 @@ fn segment_numbers(rt: HostRuntime) {
     let none: &[&[u8]] = &[];
     let one: &[&[u8]] = &[b""];
     let mut out = [0; 42];
-    assert!(rt; refused(write(&mut out, &numbered(1, 1, 0), &none), 23));
-    assert!(rt; refused(write(&mut out, &numbered(0, 1, 0), &one), 23));
-    assert!(rt; wrote(write(&mut out, &numbered(1, 1, 0), &one), 42));
-    assert!(rt; refused(write(&mut out, &numbered(0, 0, 0), &none), 23));
-    assert!(rt; wrote(write(&mut out, &numbered(0, LONG_MAX, 0), &none), 40));
-    assert!(rt; refused(write(&mut out, &numbered(1, LONG_MAX, 0), &one), 23));
-    assert!(rt; wrote(write(&mut out, &numbered(1, LONG_MAX - 1, 0), &one), 42));
-    assert!(rt; wrote(write(&mut out, &numbered(0, 1, LONG_MAX), &none), 40));
-    assert!(rt; refused(write(&mut out, &numbered(1, 1, LONG_MAX - 1), &one), 23));
-    assert!(rt; wrote(write(&mut out, &numbered(1, 1, LONG_MAX - 2), &one), 42));
+    for (count, first, offset, bodies, answer) in [
+        (1, 1, 0, none, Err((23, 0))),
+        (0, 1, 0, one, Err((23, 0))),
+        (1, 1, 0, one, Ok(42)),
+        (0, 0, 0, none, Err((23, 0))),
+        (0, LONG_MAX, 0, none, Ok(40)),
+        (1, LONG_MAX, 0, one, Err((23, 0))),
+        (1, LONG_MAX - 1, 0, one, Ok(42)),
+        (0, 1, LONG_MAX, none, Ok(40)),
+        (1, 1, LONG_MAX - 1, one, Err((23, 0))),
+        (1, 1, LONG_MAX - 2, one, Ok(42)),
+    ] {
+        let header = numbered(count, first, offset);
+        assert_eq!(rt;
+            written(&mut out, &header, bodies),
+            answer,
+            "{count}, {first}, {offset}"
+        );
+    }
 }
 
 // Messages at their limits, and past them. What is past them is refused before the buffer's length is looked at.
@@ -104,64 +100,40 @@ fn segment_numbers(rt: HostRuntime) {
 fn segment_sizes(rt: HostRuntime) -> Result<(), Fail> {
     let data = [0x55; 1431];
     let mut out = vec![in rt.alloc(); 0u8; 65535]?;
-    let longest: &[&[u8]] = &[&data[0..1430]];
-    let longer: &[&[u8]] = &[&data];
-    assert!(rt; wrote(write(&mut out, &numbered(1, 1, 0), &longest), 1472));
-    assert!(rt; refused(write(&mut [], &numbered(1, 1, 0), &longer), 23));
+    let one = numbered(1, 1, 0);
+    assert_eq!(rt; written(&mut out, &one, &[&data[0..1430]]), Ok(1472));
+    assert_eq!(rt; written(&mut [], &one, &[&data]), Err((23, 0)));
+    let full = numbered(46, 1, 0);
     let mut bodies = [&data[0..1430]; 46];
     bodies[45] = &data[0..1053];
-    let full: &[&[u8]] = &bodies;
-    assert!(rt; wrote(write(&mut out, &numbered(46, 1, 0), &full), 65535));
+    assert_eq!(rt; written(&mut out, &full, &bodies), Ok(65535));
     bodies[45] = &data[0..1054];
-    let over: &[&[u8]] = &bodies;
-    assert!(rt; refused(write(&mut out, &numbered(46, 1, 0), &over), 23));
+    assert_eq!(rt; written(&mut out, &full, &bodies), Err((23, 0)));
     Ok(())
 }
-
-const EXAMPLE_RANGES: [Range; 2] = [
-    Range {
-        first: 12_340,
-        last: 12_350,
-    },
-    Range {
-        first: 56_789,
-        last: 56_799,
-    },
-];
 
 // The examples; what stands behind a request stays.
 #[test]
 fn request_written(rt: HostRuntime) {
     let mut out = [0xee; 50];
-    assert!(rt;
-        refused(
-            request::write::<ByNumbers>(&mut out[0..47], &ADDRESS, &EXAMPLE_RANGES),
-            24,
-        )
+    assert_eq!(rt;
+        requested::<ByNumbers>(&mut out[0..47], &REQUEST_RANGES),
+        Err((24, 0))
     );
     assert_eq!(rt; &out[0..50], [0xee; 50].as_slice());
-    assert!(rt;
-        wrote(
-            request::write::<ByNumbers>(&mut out, &ADDRESS, &EXAMPLE_RANGES),
-            48,
-        )
-    );
+    assert_eq!(rt; requested::<ByNumbers>(&mut out, &REQUEST_RANGES), Ok(48));
     assert_eq!(rt; &out[0..48], &REQUEST[0..48]);
     assert_eq!(rt; &out[48..50], [0xee; 2].as_slice());
-    assert!(rt; wrote(request::write::<ByNumbers>(&mut out, &ADDRESS, &[]), 16));
+    assert_eq!(rt; requested::<ByNumbers>(&mut out, &[]), Ok(16));
     assert_eq!(rt; &out[0..16], &TEST_REQUEST[0..16]);
 }
 
 // 1 to 2, 4 to 5, 7 to 8 and so on.
 fn spaced_ranges() -> [Range; 65] {
-    let mut ranges = [Range { first: 1, last: 2 }; 65];
-    for i in 0..65u64 {
-        ranges[i as usize] = Range {
-            first: 3 * i + 1,
-            last: 3 * i + 2,
-        };
-    }
-    ranges
+    array::from_fn(|i| Range {
+        first: 3 * i as u64 + 1,
+        last: 3 * i as u64 + 2,
+    })
 }
 
 // 64 ranges are written and read back, and 65 are refused.
@@ -169,22 +141,18 @@ fn spaced_ranges() -> [Range; 65] {
 fn many_ranges(rt: HostRuntime) -> Result<(), Fail> {
     let ranges = spaced_ranges();
     let mut out = [0; 1056];
-    assert!(rt; refused(request::write::<ByNumbers>(&mut out, &ADDRESS, &ranges), 23));
-    assert!(rt;
-        wrote(
-            request::write::<ByNumbers>(&mut out, &ADDRESS, &ranges[0..64]),
-            1040,
-        )
+    assert_eq!(rt; requested::<ByNumbers>(&mut out, &ranges), Err((23, 0)));
+    assert_eq!(rt; requested::<ByNumbers>(&mut out, &ranges[0..64]), Ok(1040));
+    let read = request::read::<ByNumbers>(&out[0..1040], &BY_DATAGRAM)?;
+    let read: Vec<Range> = read.collect(rt.alloc())?;
+    assert_eq!(rt; read.as_slice(), &ranges[0..64]);
+    assert_eq!(rt;
+        ranges[63],
+        Range {
+            first: 190,
+            last: 191
+        }
     );
-    let Ok(read) = request::read::<ByNumbers>(&out[0..1040], &BY_DATAGRAM) else {
-        return Err(Fail::new("refused"));
-    };
-    let mut next = 1u64;
-    for range in read {
-        assert!(rt; range.first == next && range.last == next.wrapping_add(1));
-        next = next.wrapping_add(3);
-    }
-    assert_eq!(rt; next, 193);
     Ok(())
 }
 
@@ -202,9 +170,9 @@ fn unordered_ranges(rt: HostRuntime) {
     let zero = [Range { first: 0, last: 1 }];
     let back = [Range { first: 5, last: 4 }];
     let mut out = [0; 48];
-    assert!(rt; refused(request::write::<ByNumbers>(&mut [], &ADDRESS, &meet), 23));
-    assert!(rt; wrote(request::write::<ByNumbers>(&mut out, &ADDRESS, &apart), 48));
-    assert!(rt; refused(request::write::<ByNumbers>(&mut out, &ADDRESS, &zero), 23));
-    assert!(rt; wrote(request::write::<ByBytes>(&mut out, &ADDRESS, &zero), 32));
-    assert!(rt; refused(request::write::<ByBytes>(&mut out, &ADDRESS, &back), 23));
+    assert_eq!(rt; requested::<ByNumbers>(&mut [], &meet), Err((23, 0)));
+    assert_eq!(rt; requested::<ByNumbers>(&mut out, &apart), Ok(48));
+    assert_eq!(rt; requested::<ByNumbers>(&mut out, &zero), Err((23, 0)));
+    assert_eq!(rt; requested::<ByBytes>(&mut out, &zero), Ok(32));
+    assert_eq!(rt; requested::<ByBytes>(&mut out, &back), Err((23, 0)));
 }
