@@ -42,10 +42,7 @@ fn number_up_to(most: u32, text: &str, wrong: &str) -> anyhow::Result<u32>
 pub fn expected(rt: &(impl Env + Alloc)) -> anyhow::Result<Expected> {
     let mut args = env::args(rt)?.skip(1);
     let protocol = match args.next() {
-        Some(text) => {
-            let n = number_up_to(u32::from(u16::MAX), text.as_str(), WRONG_PROTOCOL)?;
-            u16::try_from(n)?
-        }
+        Some(text) => number_up_to(u32::from(u16::MAX), text.as_str(), WRONG_PROTOCOL)? as u16,
         None => PROTOCOL,
     };
     let channel = match args.next() {
