@@ -66,24 +66,22 @@ fn input(
     Ok(bytes)
 }
 
-// How many messages the reader of segments hands out, which must be as many as the header says.
+// How many messages the reader of segments hands out. Where they are not as many as the header says, the answer is none of a table.
 #[tactic(auto, using(crate::proofs::Cursor::unread_at_most))]
-fn segment_answer(rt: &impl Abort, datagram: &[u8]) -> Answer {
+fn segment_answer(datagram: &[u8]) -> Answer {
     let segment = read(datagram, &EXPECTED).map_err(number_and_place)?;
     let handed = segment.content.messages().count();
-    assert_eq!(rt; handed, usize::from(segment.header.count));
+    if handed != usize::from(segment.header.count) {
+        return Err((0, 0));
+    }
     Ok(handed)
 }
 
 // What is answered to a datagram that is right but for the patches.
-fn segments(
-    rt: &(impl Abort + AllocGlobal),
-    length: usize,
-    patches: &[Patch],
-) -> Result<Answer, AllocError> {
+fn segments(heap: Global, length: usize, patches: &[Patch]) -> Result<Answer, AllocError> {
     let payload = ((length.saturating_sub(40) % 65536) as u16).to_le_bytes();
-    let datagram = input(rt.alloc(), length, &[(12, &payload), (24, &[1])], patches)?;
-    Ok(segment_answer(rt, &datagram))
+    let datagram = input(heap, length, &[(12, &payload), (24, &[1])], patches)?;
+    Ok(segment_answer(&datagram))
 }
 
 // How many ranges the reader of requests hands out.
@@ -106,30 +104,32 @@ fn requests<K: RangeKind>(
 
 // The same, by datagrams, where nothing was requested before.
 fn datagram_requests<K: RangeKind>(
-    rt: &impl AllocGlobal,
+    heap: Global,
     length: usize,
     patches: &[Patch],
 ) -> Result<Answer, AllocError> {
-    requests::<K>(rt.alloc(), &BY_DATAGRAM, length, patches)
+    requests::<K>(heap, &BY_DATAGRAM, length, patches)
 }
 
 // Each case has the answer of its table, from a reader that is given the case's length and patches.
-fn all_agree<R: Abort, F: Fn(&R, usize, &[Patch]) -> Result<Answer, AllocError>>(
-    rt: &R,
+fn all_agree<F: Fn(Global, usize, &[Patch]) -> Result<Answer, AllocError>>(
+    rt: &impl Abort,
+    heap: Global,
     cases: &[Case],
     reader: F,
 ) -> Result<(), Fail>
     requires { F.IsAlwaysCallable reader }
 {
     for (name, length, patches, expected) in cases {
-        assert_eq!(rt; reader(rt, *length, patches)?, *expected, "{name}");
+        assert_eq!(rt; reader(heap, *length, patches)?, *expected, "{name}");
     }
     Ok(())
 }
 
 // Wrong in one way, alone or with one of those that follow: the answer to the first is given.
-fn first_wins<R: Abort, F: Fn(&R, usize, &[Patch]) -> Result<Answer, AllocError>>(
-    rt: &R,
+fn first_wins<F: Fn(Global, usize, &[Patch]) -> Result<Answer, AllocError>>(
+    rt: &impl Abort,
+    heap: Global,
     wrongs: &[Wrong],
     shortest: usize,
     reader: F,
@@ -138,7 +138,7 @@ fn first_wins<R: Abort, F: Fn(&R, usize, &[Patch]) -> Result<Answer, AllocError>
 {
     for (i, (first, expected)) in wrongs.iter().enumerate() {
         for (other, _) in wrongs.iter().skip(i) {
-            let answer = reader(rt, shortest, &[*first, *other])?;
+            let answer = reader(heap, shortest, &[*first, *other])?;
             assert_eq!(rt; answer, *expected, "{first:?}, {other:?}");
         }
     }
@@ -147,34 +147,50 @@ fn first_wins<R: Abort, F: Fn(&R, usize, &[Patch]) -> Result<Answer, AllocError>
 
 #[test]
 fn sizes(rt: HostRuntime) -> Result<(), Fail> {
-    all_agree(&rt, &SIZES, segments)?;
-    all_agree(&rt, &REQUEST_SIZES, datagram_requests::<ByNumbers>)
+    all_agree(&rt, rt.alloc(), &SIZES, segments)?;
+    all_agree(
+        &rt,
+        rt.alloc(),
+        &REQUEST_SIZES,
+        datagram_requests::<ByNumbers>,
+    )
 }
 
 #[test]
 fn fields(rt: HostRuntime) -> Result<(), Fail> {
-    all_agree(&rt, &FIELDS, segments)?;
-    all_agree(&rt, &REQUEST_FIELDS, datagram_requests::<ByNumbers>)
+    all_agree(&rt, rt.alloc(), &FIELDS, segments)?;
+    all_agree(
+        &rt,
+        rt.alloc(),
+        &REQUEST_FIELDS,
+        datagram_requests::<ByNumbers>,
+    )
 }
 
 #[test]
 fn pairs(rt: HostRuntime) -> Result<(), Fail> {
-    first_wins(&rt, &WRONGS, 40, segments)?;
-    first_wins(&rt, &REQUEST_WRONGS, 16, datagram_requests::<ByNumbers>)?;
-    all_agree(&rt, &PAIRS, segments)
+    first_wins(&rt, rt.alloc(), &WRONGS, 40, segments)?;
+    first_wins(
+        &rt,
+        rt.alloc(),
+        &REQUEST_WRONGS,
+        16,
+        datagram_requests::<ByNumbers>,
+    )?;
+    all_agree(&rt, rt.alloc(), &PAIRS, segments)
 }
 
 #[test]
 fn blocks(rt: HostRuntime) -> Result<(), Fail> {
-    all_agree(&rt, &BLOCKS, segments)
+    all_agree(&rt, rt.alloc(), &BLOCKS, segments)
 }
 
 #[test]
 fn ranges(rt: HostRuntime) -> Result<(), Fail> {
-    all_agree(&rt, &RANGES, datagram_requests::<ByNumbers>)?;
-    all_agree(&rt, &BYTE_RANGES, datagram_requests::<ByBytes>)?;
-    all_agree(&rt, &STREAM_REQUESTS, |rt, length, patches| {
-        requests::<ByNumbers>(rt.alloc(), &BY_STREAM_AFTER_9, length, patches)
+    all_agree(&rt, rt.alloc(), &RANGES, datagram_requests::<ByNumbers>)?;
+    all_agree(&rt, rt.alloc(), &BYTE_RANGES, datagram_requests::<ByBytes>)?;
+    all_agree(&rt, rt.alloc(), &STREAM_REQUESTS, |heap, length, patches| {
+        requests::<ByNumbers>(heap, &BY_STREAM_AFTER_9, length, patches)
     })
 }
 
