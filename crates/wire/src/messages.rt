@@ -13,7 +13,7 @@ pub struct Message<'a> {
     pub body: &'a [u8],
 }
 
-// The messages of a segment that are still to be handed out.
+// The messages of a segment that are still to be handed out. It has no model, since a `Copy` struct with a lifetime can have none.
 #[derive(Clone, Copy, Debug)]
 pub struct Messages<'a> {
     // the blocks, a part of the datagram

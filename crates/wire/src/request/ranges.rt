@@ -70,7 +70,7 @@ pub(crate) fn check_ranges<K: RangeKind, R: AsRange>(
     Ok(())
 }
 
-// The ranges of a request that are still to be handed out.
+// The ranges of a request that are still to be handed out. It has no model, since a `Copy` struct with a lifetime can have none.
 #[derive(Clone, Copy, Debug)]
 pub struct Ranges<'a> {
     // the bytes of each, a part of the request
