@@ -1,11 +1,14 @@
 -- What the reader answers, from what its parts answer.
-use Rattle.std.proofs.Common.{◌≡◌, ℕ, zero, suc, ◌+◌, ◌-◌, ◌^◌, ◌<◌, not, eqb, List, [], ◌∷◌, ◌++◌, map, length, take, drop, Ok, Err, Result, sym, refl, ap, ◌∙◌, subst, arith, length-drop}
+use Rattle.std.proofs.Common.{◌≡◌, ℕ, zero, suc, ◌+◌, ◌-◌, ◌^◌, ◌<◌, not, eqb, List, [], ◌∷◌, ◌++◌, map, length, take, drop, IfOk, Ok, Err, Result, sym, refl, ap, ◌∙◌, subst, arith, length-drop}
 use Rattle.std.proofs.lemmas.List.{length-take-le}
+use Rattle.std.specs.Result.{IsErrAnd}
+use Rattle.std.proofs.lemmas.Result.{err_from_is_err_and}
 use Rattle.std.proofs.lemmas.Bool.{cond_both, cond-true, cond-false, eq-eqb, ne_eqb}
 use Rattle.wire.specs.declared.address.Expected.{Expected}
 use Rattle.wire.specs.declared.fault.Fault.{Fault}
 use Rattle.wire.specs.declared.fault.Refusal.TheVariants.{BlocksDisagree}
 use Rattle.wire.specs.declared.segment.Header.{Header}
+use Rattle.wire.specs.declared.segment.Segment.{Segment}
 use Rattle.wire.specs.Blocks.{blocks, checked_blocks}
 use Rattle.wire.specs.Cursor.{Placed, placed_at, numbered, wrap, unread_from}
 use Rattle.wire.specs.Faults.{fault}
@@ -13,7 +16,7 @@ use Rattle.wire.specs.Fields.{field}
 use Rattle.wire.specs.Outcomes.{map_ok, Check, first_fault}
 use Rattle.wire.specs.ReadingLaw.{ByLaw, Accepted}
 use Rattle.wire.specs.Segments.{Plain, size_checks, split_datagram, address_checks, range_checks, header_of, segment_of, read_segment}
-use Rattle.wire.specs.Views.{Handed, messages, carried, messages_of, body_of, content_unread}
+use Rattle.wire.specs.Views.{Handed, messages, carried, messages_of, body_of, plain, HandedInOrder, content_unread}
 use Rattle.wire.proofs.Blocks.{Pair, first_block_cases, first_block_good, after}
 use Rattle.wire.proofs.Cursor.{unread_more}
 use Rattle.wire.proofs.Headers.{address_checks-take, range_checks-take, header_of-take}
@@ -70,8 +73,13 @@ carried_messages (m ∷ ms) = refl
 
 module _ (e : Expected) (d : List ℕ) where
   -- a fault as the reader's answer
-  pub refused : (f : Fault) → Err f ≡ read_segment e d → ByLaw e d (Err f)
+  refused : (f : Fault) → Err f ≡ read_segment e d → ByLaw e d (Err f)
   refused f v = subst (ByLaw e d) (sym v) (reads_by_law e d)
+
+  -- what holds where the reader answers with it
+  pub gives : (r : Result Segment Fault) (f : Fault) → IsErrAnd r (λ g. g ≡ f) → Err f ≡ read_segment e d
+      → (map_ok plain r ≡ read_segment e d) × IfOk r HandedInOrder × ByLaw e d (map_ok plain r)
+  gives r f h v = let p = err_from_is_err_and r h in rw (p.1, p.2) (v, tt, refused f v)
 
   pub by_size : (f : Fault) → Err f ≡ split_datagram d → Err f ≡ read_segment e d
   by_size f h = fault_found _ (size_checks d) (address_checks e d ++ range_checks d (length d)) _ f h

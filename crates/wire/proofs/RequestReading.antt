@@ -1,16 +1,19 @@
 -- What the reader of requests answers, from what its parts answer.
 use Rattle.std.proofs.Common.{◌≡◌, ℕ, ◌+◌, ◌-◌, ◌*◌, ◌/◌, ◌≤◌, ◌&&◌, eqb, ltb, List, [], ◌∷◌, ◌++◌, map, length, take, drop, Some, Ok, Err, Option, Result, sym, ap, ◌∙◌, subst, arith, length-drop}
 use Rattle.std.proofs.lemmas.Bool.{eqb-true, ltb-false, not-false, or_parts}
+use Rattle.std.specs.Result.{IsErrAnd}
+use Rattle.std.proofs.lemmas.Result.{err_from_is_err_and}
 use Rattle.std.specs.Simd.{first_chunks}
 use Rattle.wire.specs.declared.fault.Fault.{Fault}
 use Rattle.wire.specs.declared.fault.Refusal.TheVariants.{ShortRequest}
 use Rattle.wire.specs.declared.request.ExpectedRequest.{ExpectedRequest}
 use Rattle.wire.specs.declared.request.Range.{Range}
+use Rattle.wire.specs.declared.request.ranges.Ranges.{Ranges}
 use Rattle.wire.specs.Fields.{field}
 use Rattle.wire.specs.Headers.{short_checks, split_header}
 use Rattle.wire.specs.Outcomes.{map_ok, Check, first_fault}
 use Rattle.wire.specs.RequestLaw.{RequestByLaw}
-use Rattle.wire.specs.Requests.{Kind, front_checks, address_checks, is_stream, count_checks, range_of, ranges, checked_ranges, ranges_from, read_request}
+use Rattle.wire.specs.Requests.{Kind, front_checks, address_checks, is_stream, count_checks, range_of, ranges, checked_ranges, ranges_from, read_request, unread_ranges}
 use Rattle.wire.proofs.Blocks.{Pair}
 use Rattle.wire.proofs.Headers.{front_checks-take, request_address_checks-take, count_checks-take}
 use Rattle.wire.proofs.Outcomes.{passed, ok_not_err, map_ok_from, none_found, fault_found, past_checks}
@@ -36,8 +39,13 @@ same_fault (Err g) f h = let q : f ≡ g = cc in ap Err q
 
 module _ (k : Kind) (x : ExpectedRequest) (d : List ℕ) where
   -- a fault as the reader's answer
-  pub refused : (f : Fault) → Err f ≡ read_request k x d → RequestByLaw k x d (Err f)
+  refused : (f : Fault) → Err f ≡ read_request k x d → RequestByLaw k x d (Err f)
   refused f v = subst (RequestByLaw k x d) (sym v) (requests_by_law k x d)
+
+  -- what holds where the reader answers with it
+  pub gives : (r : Result Ranges Fault) (f : Fault) → IsErrAnd r (λ g. g ≡ f) → Err f ≡ read_request k x d
+      → (map_ok unread_ranges r ≡ read_request k x d) × RequestByLaw k x d (map_ok unread_ranges r)
+  gives r f h v = let p = err_from_is_err_and r h in rw (p.1, p.2) (v, refused f v)
 
   abbrev behind : List Check
   behind = address_checks x.address d ++ count_checks x.transport d (length d)
