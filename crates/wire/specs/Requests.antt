@@ -20,10 +20,6 @@ pub record Kind : Type 0 where
   pub code : ℕ
   pub lowest : ℕ
 
--- a kind with a code and a lowest value
-abbrev pub kind_of : ℕ → ℕ → Kind
-kind_of c l = record { code = c; lowest = l }
-
 -- ranges of message numbers: type 1, from 1 on
 abbrev pub by_numbers : Kind
 by_numbers = record { code = 1; lowest = 1 }

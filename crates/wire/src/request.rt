@@ -1,6 +1,6 @@
 // A gap fill request: a header of 16 bytes, then the ranges that it asks for, 16 bytes each.
-ghost use Rattle.std.specs.Prelude.{ℕ};
-ghost use Rattle.wire.specs.Requests.{by_numbers, by_bytes};
+ghost use Rattle.std.specs.Prelude.{◌≡◌, ℕ, refl};
+ghost use Rattle.wire.specs.Requests.{Kind, by_numbers, by_bytes};
 
 mod ranges;
 mod reading;
@@ -35,10 +35,16 @@ pub trait RangeKind {
     // the lowest value that a range may begin with
     const LOWEST: u64;
 
-    // the two constants, for the contracts
+    // the two constants, for the contracts, each and together
     ghost TYPE: { ℕ };
 
     ghost LOWEST: { ℕ };
+
+    ghost kind: { Kind };
+
+    ghost type_is: { TYPE ≡ kind.code };
+
+    ghost lowest_is: { LOWEST ≡ kind.lowest };
 }
 
 // Ranges of message numbers, from 1 on.
@@ -52,6 +58,12 @@ impl RangeKind for ByNumbers {
     ghost TYPE = { by_numbers.code };
 
     ghost LOWEST = { by_numbers.lowest };
+
+    ghost kind = { by_numbers };
+
+    ghost type_is = { refl };
+
+    ghost lowest_is = { refl };
 }
 
 // Ranges of bytes of the session's stream, from 0 on.
@@ -65,6 +77,12 @@ impl RangeKind for ByBytes {
     ghost TYPE = { by_bytes.code };
 
     ghost LOWEST = { by_bytes.lowest };
+
+    ghost kind = { by_bytes };
+
+    ghost type_is = { refl };
+
+    ghost lowest_is = { refl };
 }
 
 // How a request comes. A request with no ranges asks a datagram server whether it is there; on a stream it makes no sense.

@@ -3,7 +3,7 @@ ghost use Rattle.std.specs.Prelude.{◌≡◌, ◌≤◌, map, length, Ok, IfNon
 ghost use Rattle.std.specs.Iterator.{YieldsFirst, item_count};
 ghost use Rattle.wire.specs.declared.request.Range.{Range};
 ghost use Rattle.wire.specs.Outcomes.{first_fault};
-ghost use Rattle.wire.specs.Requests.{kind_of, range_of, range_checks, checked_ranges, unread_ranges};
+ghost use Rattle.wire.specs.Requests.{range_of, range_checks, checked_ranges, unread_ranges};
 
 use crate::fault::{Fault, Refusal};
 use crate::field::field_at;
@@ -41,7 +41,7 @@ impl AsRange for [u8; RANGE_LEN] {
 
 // Whether a range is valid and begins above `after`, where that is a value. A fault is found at `place`.
 fn check_range<K: RangeKind>(range: Range, place: u64, after: Option<u64>) -> Result<(), Fault>
-    ensures { result ≡ first_fault (range_checks (kind_of K.TYPE K.LOWEST) after place range) (Ok tt) }
+    ensures { result ≡ first_fault (range_checks K.kind after place range) (Ok tt) }
 {
     if range.first < K::LOWEST || range.last < range.first || range.last > LONG_MAX {
         return Err(Refusal::InvalidRange.at(place));
@@ -58,7 +58,7 @@ pub(crate) fn check_ranges<K: RangeKind, R: AsRange>(
     after: Option<u64>,
 ) -> Result<(), Fault>
     requires { length ranges.now ≤ 64 }
-    ensures { result ≡ checked_ranges (kind_of K.TYPE K.LOWEST) after 16 (map R.range ranges.now) }
+    ensures { result ≡ checked_ranges K.kind after 16 (map R.range ranges.now) }
 {
     let mut after = after;
     for (i, range) in ranges.iter().enumerate() {

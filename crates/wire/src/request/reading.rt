@@ -2,7 +2,7 @@
 ghost use Rattle.std.specs.Prelude.{◌≡◌, Ok};
 ghost use Rattle.wire.specs.Outcomes.{map_ok, first_fault};
 ghost use Rattle.wire.specs.RequestLaw.{RequestByLaw};
-ghost use Rattle.wire.specs.Requests.{kind_of, front_checks, address_checks, count_checks, unread_ranges, read_request};
+ghost use Rattle.wire.specs.Requests.{front_checks, address_checks, count_checks, unread_ranges, read_request};
 
 use crate::address::{Address, AddressRefusals, Expected};
 use crate::fault::{Fault, Refusal};
@@ -23,7 +23,7 @@ const ADDRESS_REFUSALS: AddressRefusals = AddressRefusals {
 
 // Whether a header is of this version and this type.
 fn check_front<K: RangeKind>(header: &[u8; REQUEST_HEADER_LEN]) -> Result<(), Fault>
-    ensures { result ≡ first_fault (front_checks (kind_of K.TYPE K.LOWEST) header.now) (Ok tt) }
+    ensures { result ≡ first_fault (front_checks K.kind header.now) (Ok tt) }
 {
     if header[0] != VERSION {
         return Err(Refusal::WrongRequestVersion.at(0));
@@ -64,8 +64,8 @@ pub fn read<'a, K: RangeKind>(
     request: &'a [u8],
     expected: &ExpectedRequest,
 ) -> Result<Ranges<'a>, Fault>
-    ensures value { map_ok unread_ranges result ≡ read_request (kind_of K.TYPE K.LOWEST) expected.now request.now }
-    ensures law { RequestByLaw (kind_of K.TYPE K.LOWEST) expected.now request.now (map_ok unread_ranges result) }
+    ensures value { map_ok unread_ranges result ≡ read_request K.kind expected.now request.now }
+    ensures law { RequestByLaw K.kind expected.now request.now (map_ok unread_ranges result) }
 {
     let (header, body) = split_header(request, Refusal::ShortRequest)?;
     check_front::<K>(header)?;

@@ -2,7 +2,6 @@
 ghost use Rattle.std.specs.Prelude.{◌≡◌, ◌+◌, ◌*◌, ◌≤◌, not, length, take, IfOk};
 ghost use Rattle.wire.specs.Buffers.{left_by};
 ghost use Rattle.wire.specs.Fields.{overwritten};
-ghost use Rattle.wire.specs.Requests.{kind_of};
 ghost use Rattle.wire.specs.RequestWriting.{request_header_bytes, range_bytes, ranges_bytes, request_bytes, ranges_past_limits, write_request, RequestReadsAs, RequestWrittenAsRead};
 ghost use Rattle.wire.specs.RoundTrip.{FitsAddress};
 
@@ -15,7 +14,7 @@ use crate::request::{MAX_RANGES, RANGE_LEN, REQUEST_HEADER_LEN, Range, RangeKind
 
 // Whether a reader would accept a request for these ranges.
 fn within_limits<K: RangeKind>(ranges: &[Range]) -> bool
-    ensures { result ≡ not (ranges_past_limits (kind_of K.TYPE K.LOWEST) ranges.now) }
+    ensures { result ≡ not (ranges_past_limits K.kind ranges.now) }
 {
     ranges.len() <= MAX_RANGES && check_ranges::<K, Range>(ranges, None).is_ok()
 }
@@ -23,7 +22,7 @@ fn within_limits<K: RangeKind>(ranges: &[Range]) -> bool
 fn put_request_header<K: RangeKind>(out: &mut [u8], address: &Address, count: u32)
     requires { 16 ≤ length out.old }
     ensures fits { FitsAddress address.now }
-    ensures after { out.new ≡ overwritten out.old 0 (request_header_bytes (kind_of K.TYPE K.LOWEST) address.now count) }
+    ensures after { out.new ≡ overwritten out.old 0 (request_header_bytes K.kind address.now count) }
 {
     put(out, 0, &[VERSION, K::TYPE]);
     put_field(out, 2, address.protocol);
@@ -57,10 +56,10 @@ pub fn write<K: RangeKind>(
     address: &Address,
     ranges: &[Range],
 ) -> Result<usize, Fault>
-    ensures value { result ≡ write_request (kind_of K.TYPE K.LOWEST) ranges.now out.old }
-    ensures after { out.new ≡ left_by result (request_bytes (kind_of K.TYPE K.LOWEST) address.now ranges.now) out.old }
-    ensures reads_back { IfOk result (λ n. RequestReadsAs (kind_of K.TYPE K.LOWEST) (take n out.new) address.now ranges.now) }
-    ensures as_read { RequestWrittenAsRead (kind_of K.TYPE K.LOWEST) address.now ranges.now out.old out.new result }
+    ensures value { result ≡ write_request K.kind ranges.now out.old }
+    ensures after { out.new ≡ left_by result (request_bytes K.kind address.now ranges.now) out.old }
+    ensures reads_back { IfOk result (λ n. RequestReadsAs K.kind (take n out.new) address.now ranges.now) }
+    ensures as_read { RequestWrittenAsRead K.kind address.now ranges.now out.old out.new result }
 {
     if !within_limits::<K>(ranges) {
         return Err(Refusal::SettingOutOfRange.at(0));

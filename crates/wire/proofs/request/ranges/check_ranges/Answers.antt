@@ -2,7 +2,7 @@ use Rattle.std.proofs.Common.{◌≡◌, ℕ, ◌+◌, ◌*◌, ◌<◌, List, m
 use Rattle.std.proofs.lemmas.List.{get_or-map, length-map}
 use Rattle.std.proofs.lemmas.Result.{err_from_is_err_and}
 use Rattle.wire.specs.declared.request.Range.{Range}
-use Rattle.wire.specs.Requests.{kind_of, checked_ranges}
+use Rattle.wire.specs.Requests.{checked_ranges}
 use Rattle.wire.proofs.Requests.{checked_err, checked_more}
 use Rattle.wire.proofs.request.ranges.check_ranges.Goals as goal
 
@@ -12,7 +12,7 @@ element f xs i e r h is named = named ∙ (ap f is ∙ sym (get_or-map f xs i e 
 
 pub returns-in_err-check_range : goal.returns-in_err-check_range
 returns-in_err-check_range g c =
-    let k = kind_of g.K.RangeKind.TYPE g.K.RangeKind.LOWEST in
+    let k = g.K.RangeKind.kind in
     let f = g.R.AsRange.range in
     let xs = c.args.ranges.now in
     let i = c.loop-i.i in
@@ -25,7 +25,7 @@ returns-in_err-check_range g c =
 
 pub loop-i-preserved : goal.loop-i-preserved
 loop-i-preserved g c =
-    let k = kind_of g.K.RangeKind.TYPE g.K.RangeKind.LOWEST in
+    let k = g.K.RangeKind.kind in
     let f = g.R.AsRange.range in
     let xs = c.args.ranges.now in
     let i = c.loop-i.i in

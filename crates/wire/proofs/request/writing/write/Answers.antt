@@ -1,6 +1,5 @@
 use Rattle.std.proofs.Common.{◌≡◌, ◌+◌, ◌*◌, length, Ok, Err, sym, refl, ap, ◌∙◌, arith}
 use Rattle.std.proofs.lemmas.Bool.{not-true, not-false}
-use Rattle.wire.specs.Requests.{kind_of}
 use Rattle.wire.specs.RequestWriting.{ranges_past_limits, write_request}
 use Rattle.wire.proofs.Buffers.{past, short, wrote}
 use Rattle.wire.proofs.RequestWrote.{wrote_back, wrote_as_read, all_written}
@@ -8,7 +7,7 @@ use Rattle.wire.proofs.request.writing.write.Goals as goal
 
 pub returns-then-not-within_limits : goal.returns-then-not-within_limits
 returns-then-not-within_limits g c =
-    let k = kind_of g.K.RangeKind.TYPE g.K.RangeKind.LOWEST in
+    let k = g.K.RangeKind.kind in
     let rs = c.args.ranges.now in
     let out = c.args.out.now in
     let v = ap Err c.at.ensures ∙ past (ranges_past_limits k rs) (16 + 16 * length rs) out (not-false _ (sym c.if-not-within_limits.ensures)) in
@@ -16,7 +15,7 @@ returns-then-not-within_limits g c =
 
 pub returns-then-out-end : goal.returns-then-out-end
 returns-then-out-end g c =
-    let k = kind_of g.K.RangeKind.TYPE g.K.RangeKind.LOWEST in
+    let k = g.K.RangeKind.kind in
     let rs = c.args.ranges.now in
     let out = c.args.out.now in
     let v = ap Err c.at-then-out-end.ensures ∙ short (ranges_past_limits k rs) (16 + 16 * length rs) out (not-true _ (sym c.if-not-within_limits.ensures)) (omega arith) in
@@ -24,7 +23,7 @@ returns-then-out-end g c =
 
 pub returns : goal.returns
 returns g c =
-    let k = kind_of g.K.RangeKind.TYPE g.K.RangeKind.LOWEST in
+    let k = g.K.RangeKind.kind in
     let a = c.args.address.now in
     let rs = c.args.ranges.now in
     let out = c.args.out.now in
