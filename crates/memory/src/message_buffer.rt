@@ -70,7 +70,7 @@ impl MessageBuffer {
         Ok(())
     }
 
-    // How many data bytes there are.
+    // How many data bytes there are. Not `self.start(self.count())`: tried, and the proof did not close.
     fn used(&self) -> usize
         ensures { result ≡ data_bytes self.now.messages }
     {

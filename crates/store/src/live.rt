@@ -11,8 +11,8 @@ use std::alloc::{AllocError, Global};
 use wire::fault::{Fault, Refusal};
 use wire::limits::{LONG_MAX, MAX_MESSAGE};
 
-// The messages that were appended. It has ghost fields and no model: the law of `Store` asks these facts of every value, and a model's
-// value does not have them.
+// The messages that were appended. It has ghost fields and no model: it is to be a `Store`, whose law asks these facts of every value,
+// and a model's value does not have them.
 #[derive(Drop)]
 pub struct Live {
     buffer: MessageBuffer,

@@ -6,6 +6,7 @@ use Rattle.std.specs.List.{slice_get}
 use Rattle.std.specs.Option.{option_map, unwrap_or}
 use Rattle.std.proofs.lemmas.Bool.{cond-true, le-leb, lt-ltb, le-ltb, or_left, or_right}
 use Rattle.wire.specs.declared.segment.Header.{Header}
+use Rattle.wire.specs.Addresses.{address_bytes}
 use Rattle.wire.specs.Fields.{bytes_of, overwritten}
 use Rattle.wire.specs.Sessions.{span}
 use Rattle.wire.specs.Writing.{header_bytes, block_bytes, payload_bytes, some_long, copied, copied_from}
@@ -16,27 +17,22 @@ span_join : (xs ys : List (List ℕ)) → span (xs ++ ys) ≡ span xs + span ys
 span_join [] ys = omega arith
 span_join (x ∷ xs) ys = let k = span_join xs ys in omega arith
 
--- the header, field by field
+-- the header, part by part
 module _ (d : List ℕ) (h : Header) (payload : ℕ) where
-  pub header_written : (o2 o4 o8 o12 o14 o16 o24 o32 o40 : List ℕ) → o2 ≡ overwritten d 0 (1 ∷ 0 ∷ [])
-      → o4 ≡ overwritten o2 2 (bytes_of 2 h.address.protocol) → o8 ≡ overwritten o4 4 (bytes_of 4 h.address.channel)
-      → o12 ≡ overwritten o8 8 (bytes_of 4 h.address.session) → o14 ≡ overwritten o12 12 (bytes_of 2 payload)
+  pub header_written : (o2 o12 o14 o16 o24 o32 o40 : List ℕ) → o2 ≡ overwritten d 0 (1 ∷ 0 ∷ [])
+      → o12 ≡ overwritten o2 2 (address_bytes h.address) → o14 ≡ overwritten o12 12 (bytes_of 2 payload)
       → o16 ≡ overwritten o14 14 (bytes_of 2 h.count) → o24 ≡ overwritten o16 16 (bytes_of 8 h.offset)
       → o32 ≡ overwritten o24 24 (bytes_of 8 h.first) → o40 ≡ overwritten o32 32 (bytes_of 8 (of_z w64 h.time))
       → o40 ≡ overwritten d 0 (header_bytes h payload)
-  header_written o2 o4 o8 o12 o14 o16 o24 o32 o40 e2 e4 e8 e12 e14 e16 e24 e32 e40 =
+  header_written o2 o12 o14 o16 o24 o32 o40 e2 e12 e14 e16 e24 e32 e40 =
       let z : 0 ≤ length d = omega arith in
       let a2 : List ℕ = 1 ∷ 0 ∷ [] in
-      let a4 : List ℕ = a2 ++ bytes_of 2 h.address.protocol in
-      let a8 : List ℕ = a4 ++ bytes_of 4 h.address.channel in
-      let a12 : List ℕ = a8 ++ bytes_of 4 h.address.session in
+      let a12 : List ℕ = a2 ++ address_bytes h.address in
       let a14 : List ℕ = a12 ++ bytes_of 2 payload in
       let a16 : List ℕ = a14 ++ bytes_of 2 h.count in
       let a24 : List ℕ = a16 ++ bytes_of 8 h.offset in
       let a32 : List ℕ = a24 ++ bytes_of 8 h.first in
-      let f4 = overwritten_more d o2 o4 a2 (bytes_of 2 h.address.protocol) 0 2 e2 e4 refl z in
-      let f8 = overwritten_more d o4 o8 a4 (bytes_of 4 h.address.channel) 0 4 f4 e8 refl z in
-      let f12 = overwritten_more d o8 o12 a8 (bytes_of 4 h.address.session) 0 8 f8 e12 refl z in
+      let f12 = overwritten_more d o2 o12 a2 (address_bytes h.address) 0 2 e2 e12 refl z in
       let f14 = overwritten_more d o12 o14 a12 (bytes_of 2 payload) 0 12 f12 e14 refl z in
       let f16 = overwritten_more d o14 o16 a14 (bytes_of 2 h.count) 0 14 f14 e16 refl z in
       let f24 = overwritten_more d o16 o24 a16 (bytes_of 8 h.offset) 0 16 f16 e24 refl z in
@@ -51,6 +47,9 @@ size_of (m ∷ ms) (suc i) = size_of ms i
 
 pub size_is : (ms : List (List ℕ)) (i size : ℕ) (o : Option ℕ) → size ≡ unwrap_or o 0 → o ≡ option_map length (slice_get ms i) → size ≡ length (get_or ms i [])
 size_is ms i size o e f = e ∙ (ap (λ x. unwrap_or x 0) f ∙ size_of ms i)
+
+pub size_there : (ms : List (List ℕ)) (i size : ℕ) (o : Option ℕ) → o ≡ Some size → o ≡ option_map length (slice_get ms i) → size ≡ length (get_or ms i [])
+size_there ms i size o e f = size_is ms i size (Some size) refl (sym e ∙ f)
 
 pub copied_from-slice_get : (ms : List (List ℕ)) (i : ℕ) (out : List ℕ) → copied_from (slice_get ms i) out ≡ copied (get_or ms i []) out
 copied_from-slice_get [] i out = sym (cond-true _ _ _ (le-leb 0 (length out) (omega arith)))

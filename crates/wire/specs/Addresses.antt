@@ -1,9 +1,9 @@
--- What can be wrong with the address that a header names. Segments and requests have it at the same places.
-use Rattle.std.specs.Prelude.{ℕ, Bool, false, not, List, [], ◌∷◌, Some, None, Option, ◌==◌}
+-- The address in a header, and what can be wrong with it. Segments and requests have it at the same places.
+use Rattle.std.specs.Prelude.{ℕ, Bool, false, not, List, [], ◌∷◌, ◌++◌, Some, None, Option, ◌==◌}
 use Rattle.wire.specs.declared.address.Address.{Address}
 use Rattle.wire.specs.declared.address.AddressRefusals.{AddressRefusals}
 use Rattle.wire.specs.declared.address.Expected.{Expected}
-use Rattle.wire.specs.Fields.{field}
+use Rattle.wire.specs.Fields.{bytes_of, field}
 use Rattle.wire.specs.Outcomes.{Check, check}
 
 -- what a reader expects that expects an address
@@ -22,3 +22,7 @@ other_address_checks r e d =
     ∷ check (not (field d 4 4 == e.channel)) r.channel 4
     ∷ check (other_session e.session (field d 8 4)) r.session 8
     ∷ []
+
+-- the bytes of an address in a header
+abbrev pub address_bytes : Address → List ℕ
+address_bytes a = bytes_of 2 a.protocol ++ (bytes_of 4 a.channel ++ bytes_of 4 a.session)

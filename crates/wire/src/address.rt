@@ -1,10 +1,12 @@
 // Where a segment or a request belongs, and what a reader accepts.
 ghost use Rattle.std.specs.Prelude.{◌≡◌, ◌≤◌, length, Ok};
-ghost use Rattle.wire.specs.Addresses.{other_address_checks, expected_of};
+ghost use Rattle.wire.specs.Addresses.{address_bytes, other_address_checks, expected_of};
+ghost use Rattle.wire.specs.Fields.{overwritten};
 ghost use Rattle.wire.specs.Outcomes.{first_fault};
+ghost use Rattle.wire.specs.RoundTrip.{FitsAddress};
 
 use crate::fault::{Fault, Refusal};
-use crate::field::field_at;
+use crate::field::{field_at, put_field};
 
 // The stream that a segment belongs to: a message protocol, a channel of it, and one session of the channel.
 #[derive(Clone, Copy, Debug, PartialEq, Eq)]
@@ -12,6 +14,19 @@ pub struct Address {
     pub protocol: u16,
     pub channel: u32,
     pub session: u32,
+}
+
+impl Address {
+    // Writes the address into a header, of a segment or of a request.
+    pub(crate) fn put(&self, header: &mut [u8])
+        requires { 12 ≤ length header.old }
+        ensures fits { FitsAddress self.now }
+        ensures after { header.new ≡ overwritten header.old 2 (address_bytes self.now) }
+    {
+        put_field(header, 2, self.protocol);
+        put_field(header, 4, self.channel);
+        put_field(header, 8, self.session);
+    }
 }
 
 // What a reader accepts. Where `session` is `None`, any session will do.

@@ -1,5 +1,5 @@
 // Little-endian fields of a datagram.
-// Functions of some bytes and a place in them, and no writer that counts its place: at each call the place is a number of the format.
+// Functions of some bytes and a place in them, and no struct of the two that counts its place: a call then says where its field stands.
 ghost use Rattle.std.specs.Prelude.{◌≡◌, ℕ, ◌+◌, ◌≤◌, length, take, drop};
 ghost use Rattle.wire.specs.Fields.{le, field, bytes_of, overwritten};
 
@@ -17,6 +17,7 @@ pub(crate) trait Field<const N: usize>: Copy {
         ensures { result ≡ bytes_of N (number self) };
 }
 
+// Written out for each width, since no macro may write an impl here.
 impl Field<2> for u16 {
     ghost number = { λ n. n };
 

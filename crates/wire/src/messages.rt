@@ -18,7 +18,7 @@ pub struct Message<'a> {
 pub struct Messages<'a> {
     // the blocks, a part of the datagram
     rest: &'a [u8],
-    // how many blocks there are; kept beside them, since to find it anew takes a walk over all of them
+    // how many blocks there are; kept beside them, since what is left is defined by it, of any bytes
     left: u16,
     // the number and the place of the first of them
     number: u64,

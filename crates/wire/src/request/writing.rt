@@ -25,9 +25,7 @@ fn put_request_header<K: RangeKind>(out: &mut [u8], address: &Address, count: u3
     ensures after { out.new ≡ overwritten out.old 0 (request_header_bytes K.kind address.now count) }
 {
     put(out, 0, &[VERSION, K::TYPE]);
-    put_field(out, 2, address.protocol);
-    put_field(out, 4, address.channel);
-    put_field(out, 8, address.session);
+    address.put(out);
     put_field(out, 12, count);
 }
 
@@ -39,7 +37,7 @@ fn put_range(out: &mut [u8], at: usize, range: Range)
     put_field(out, at + 8, range.last);
 }
 
-// Writes the ranges behind the header.
+// Writes the ranges behind the header. By places and not by `as_chunks_mut`, of which nothing is known once its parts are written.
 fn put_ranges(out: &mut [u8], ranges: &[Range])
     requires { 16 + 16 * length ranges.now ≤ length out.old }
     ensures { out.new ≡ overwritten out.old 16 (ranges_bytes ranges.now) }

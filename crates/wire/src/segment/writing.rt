@@ -66,9 +66,7 @@ fn put_header(out: &mut [u8], header: &Header, payload: u16)
     ensures after { out.new ≡ overwritten out.old 0 (header_bytes header.now payload) }
 {
     put(out, 0, &[VERSION, 0]);
-    put_field(out, 2, header.address.protocol);
-    put_field(out, 4, header.address.channel);
-    put_field(out, 8, header.address.session);
+    header.address.put(out);
     put_field(out, 12, payload);
     put_field(out, 14, header.count);
     put_field(out, 16, header.offset);
@@ -76,7 +74,8 @@ fn put_header(out: &mut [u8], header: &Header, payload: u16)
     put_field(out, 32, header.time.cast_unsigned());
 }
 
-// Writes the block of message `index` at `at`, and answers where it ends.
+// Writes the block of message `index` at `at`, and answers where it ends. Nothing is asked of the number: without a message the block
+// is empty.
 fn put_block<B: Bodies>(out: &mut [u8], at: usize, bodies: &B, index: usize) -> usize
     requires short { length (body_at (B.messages bodies.now) index) < 65536 }
     requires room { at + (2 + length (body_at (B.messages bodies.now) index)) ≤ length out.old }
@@ -89,7 +88,7 @@ fn put_block<B: Bodies>(out: &mut [u8], at: usize, bodies: &B, index: usize) -> 
 }
 
 // Writes the blocks of all messages behind the header.
-// The loop counts, since the messages are handed out by number: there is no slice and no iterator to go over.
+// The loop goes over numbers, since messages are handed out by number; a `fold` over the same numbers would be no plainer.
 fn put_blocks<B: Bodies>(out: &mut [u8], bodies: &B)
     requires carried { too_large (B.messages bodies.now) ≡ false }
     requires room { 40 + span (B.messages bodies.now) ≤ length out.old }
@@ -101,13 +100,13 @@ fn put_blocks<B: Bodies>(out: &mut [u8], bodies: &B)
     }
 }
 
-// The length of the payload, where a datagram can carry the messages. The loop counts for the same reason.
+// The length of the payload, where a datagram can carry the messages. The loop goes over numbers for the same reason.
 fn measure<B: Bodies>(bodies: &B) -> Option<u16>
     ensures { result ≡ measured (B.messages bodies.now) }
 {
     let mut payload = 0;
     for index in 0..bodies.count() {
-        let size = bodies.size(index).unwrap_or(0);
+        let size = bodies.size(index).unwrap();
         if size > MAX_MESSAGE {
             return None;
         }
