@@ -1,5 +1,5 @@
 // What was read of a capture and is not done with.
-ghost use Rattle.std.specs.Prelude.{◌≡◌, ◌+◌, ◌<◌, ◌≤◌, [], length, take, drop, vec_len, IfOk};
+ghost use Rattle.std.specs.Prelude.{◌≡◌, ◌+◌, ◌<◌, ◌≤◌, [], length, take, drop, vec_len, vec_capacity, IfOk};
 ghost use Rattle.std.specs.Io.KnownBytes.{Consumes, IsAtEnd};
 ghost use Rattle.capture.specs.Intakes.{read_count};
 
@@ -21,14 +21,14 @@ pub struct Intake {
 }
 
 impl Model for Intake {
-    ghost use Rattle.std.specs.Prelude.{ℕ, List, ◌≤◌, vec_len};
+    ghost use Rattle.std.specs.Prelude.{ℕ, List, ◌≤◌, vec_len, vec_capacity};
     ghost use Rattle.capture.specs.declared.intake.TheConstants.{SIZE};
 
     ghost Value = { List ℕ };
 
     ghost view = { λ i. i.held.items };
 
-    ghost invariant = { λ i. vec_len i.held ≤ SIZE };
+    ghost invariant = { λ i. (vec_len i.held ≤ SIZE) × (SIZE ≤ vec_capacity i.held) };
 }
 
 impl Intake {
@@ -55,7 +55,7 @@ impl Intake {
         ensures end { result ≡ Ok 0 → length self.old < SIZE → IsAtEnd (R.remaining source.new) }
     {
         let held = self.held.len();
-        self.held.resize(SIZE.min(held + CHUNK), 0)?;
+        self.held.resize(SIZE.min(held + CHUNK), 0).unwrap();
         read_behind(&mut self.held, held, source)
     }
 
@@ -76,6 +76,7 @@ fn read_behind<R: Read>(memory: &mut Vec<u8>, held: usize, source: &mut R) -> io
     ensures kept { take held memory.new.items ≡ take held memory.old.items }
     ensures more { vec_len memory.new ≡ held + read_count result }
     ensures within { vec_len memory.new ≤ vec_len memory.old }
+    ensures capacity { vec_capacity memory.new ≡ vec_capacity memory.old }
     ensures taken { Consumes (R.remaining source.old) (R.remaining source.new) (drop held memory.new.items) }
     ensures end { result ≡ Ok 0 → held < vec_len memory.old → IsAtEnd (R.remaining source.new) }
 {
