@@ -41,7 +41,7 @@ impl<'a> Iterator for Records<'a> {
     }
 }
 
-// The record at the front of `bytes`, and what follows it.
+// The record at the front of `bytes`, and what follows it. Not the block reader of `wire`, which refuses what is longer than a message.
 fn split_record(bytes: &[u8]) -> Option<(&[u8], &[u8])>
     ensures { option_map (λ p. (p.0.now, p.1.now)) result ≡ first_record bytes.now }
 {

@@ -52,7 +52,8 @@ fn put(input: &mut [u8], patches: &[Patch]) {
     }
 }
 
-// An input of the front of a right header, its other fields and 0 behind them, and then the patches.
+// An input of the front of a right header, its other fields and 0 behind them, and then the patches. Length and patches are two columns
+// of the tables, and no struct: each row would have to name its fields.
 fn input(
     heap: Global,
     length: usize,

@@ -12,7 +12,7 @@ use crate::limits::VERSION;
 use crate::request::ranges::check_ranges;
 use crate::request::{MAX_RANGES, RANGE_LEN, REQUEST_HEADER_LEN, Range, RangeKind};
 
-// Whether a reader would accept a request for these ranges.
+// Whether a reader would accept a request for these ranges. A test, and no `Result`: the fault that a writer gives is another one.
 fn within_limits<K: RangeKind>(ranges: &[Range]) -> bool
     ensures { result ≡ not (ranges_past_limits K.kind ranges.now) }
 {
