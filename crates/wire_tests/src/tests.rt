@@ -68,7 +68,7 @@ fn input(
 }
 
 // How many messages the reader of segments hands out.
-#[tactic(auto, using(crate::proofs::Cursor::unread_at_most))]
+#[tactic(auto, using(wire::proofs::Cursor::unread_at_most))]
 fn segment_answer(datagram: &[u8]) -> Answer {
     let segment = read(datagram, &EXPECTED).map_err(number_and_place)?;
     Ok(segment.content.messages().count())
