@@ -5,25 +5,25 @@ use Rattle.std.proofs.lemmas.Bool.{cond_both, cond-false, ltb-false, le-ltb, or_
 use Rattle.wire.specs.Fields.{le, field}
 use Rattle.capture.specs.Records.{first_record, Splits, SplitsOneWay, SplitsInParts, SplitsOffTheEnd}
 
-abbrev Pair : Type 0
+abbrev pub Pair : Type 0
 Pair = List ℕ × List ℕ
 
 -- the record at the front and what follows it, where all of it is there
-abbrev parted : List ℕ → Pair
+abbrev pub parted : List ℕ → Pair
 parted bs = (take (field bs 0 2) (drop 2 bs), drop (field bs 0 2) (drop 2 bs))
 
 -- a whole record stands first
-record Whole (bs : List ℕ) (p : Pair) : Type 0 where
-  two : 2 ≤ length bs
-  fits : field bs 0 2 ≤ length (drop 2 bs)
-  is : parted bs ≡ p
+pub record Whole (bs : List ℕ) (p : Pair) : Type 0 where
+  pub two : 2 ≤ length bs
+  pub fits : field bs 0 2 ≤ length (drop 2 bs)
+  pub is : parted bs ≡ p
 
-whole : (bs : List ℕ) (p : Pair) → first_record bs ≡ Some p → Whole bs p
+pub whole : (bs : List ℕ) (p : Pair) → first_record bs ≡ Some p → Whole bs p
 whole bs p =
     cond_both (ltb (length bs) 2 || ltb (length (drop 2 bs)) (field bs 0 2)) _ _ (λ o. o ≡ Some p → Whole bs p) (λ _ e. cc)
     (λ t e. let q = or_parts _ _ t in record { two = ltb-false _ _ q.0; fits = ltb-false _ _ q.1; is = cc })
 
-first_record_whole : (bs : List ℕ) → 2 ≤ length bs → field bs 0 2 ≤ length (drop 2 bs) → first_record bs ≡ Some (parted bs)
+pub first_record_whole : (bs : List ℕ) → 2 ≤ length bs → field bs 0 2 ≤ length (drop 2 bs) → first_record bs ≡ Some (parted bs)
 first_record_whole bs two fits = cond-false _ _ _ (or_from _ _ (le-ltb _ _ two) (le-ltb _ _ fits))
 
 -- a record taken leaves less

@@ -1,5 +1,5 @@
 // What was read of a capture and is not done with.
-ghost use Rattle.std.specs.Prelude.{◌≡◌, ◌+◌, ◌<◌, ◌≤◌, [], length, take, drop, vec_len, vec_capacity, IfOk};
+ghost use Rattle.std.specs.Prelude.{◌≡◌, ◌+◌, ◌<◌, ◌≤◌, [], length, take, drop, IfOk};
 ghost use Rattle.std.specs.Io.KnownBytes.{Consumes, IsAtEnd};
 ghost use Rattle.capture.specs.Intakes.{read_count};
 
@@ -11,24 +11,24 @@ use std::marker::Model;
 // The most bytes that an intake holds: many times a record's most.
 pub const SIZE: usize = 1_048_576;
 
-// The most bytes that it reads at once: as many as a pipe holds. The memory for them is cleared first, so more would cost time.
-const CHUNK: usize = 65_536;
-
 // Bytes in the order in which they came.
 #[derive(Drop)]
 pub struct Intake {
-    held: Vec<u8>,
+    // the bytes that are held, and free ones behind them
+    memory: Vec<u8>,
+    // how many are held. Not the Vec's length: what a Vec is to be read into is cleared first, at each read, whatever that gives
+    held: usize,
 }
 
 impl Model for Intake {
-    ghost use Rattle.std.specs.Prelude.{ℕ, List, ◌≤◌, vec_len, vec_capacity};
+    ghost use Rattle.std.specs.Prelude.{ℕ, List, ◌≡◌, ◌≤◌, take, vec_len};
     ghost use Rattle.capture.specs.declared.intake.TheConstants.{SIZE};
 
     ghost Value = { List ℕ };
 
-    ghost view = { λ i. i.held.items };
+    ghost view = { λ i. take i.held i.memory.items };
 
-    ghost invariant = { λ i. (vec_len i.held ≤ SIZE) × (SIZE ≤ vec_capacity i.held) };
+    ghost invariant = { λ i. (i.held ≤ SIZE) × (vec_len i.memory ≡ SIZE) };
 }
 
 impl Intake {
@@ -36,51 +36,48 @@ impl Intake {
     pub fn new(heap: Global) -> Result<Intake, AllocError>
         ensures { IfOk result (λ i. i ≡ []) }
     {
-        let held = Vec::with_capacity(heap, SIZE)?;
-        Ok(Intake { held })
+        let memory = vec![in heap; 0; SIZE]?;
+        Ok(Intake { memory, held: 0 })
     }
 
     // The bytes that are held.
     pub fn bytes(&self) -> &[u8]
         ensures { result.now ≡ self.now }
     {
-        self.held.as_slice()
+        &self.memory[..self.held]
     }
 
     // Reads more, behind what is held, and says how much: 0 at the input's end, or where the memory is full.
+    #[tactic(auto, using(crate::proofs::Intakes::filling))]
     pub fn fill<R: Read>(&mut self, source: &mut R) -> io::Result<usize>
         ensures kept { take (length self.old) self.new ≡ self.old }
         ensures more { length self.new ≡ length self.old + read_count result }
         ensures taken { Consumes (R.remaining source.old) (R.remaining source.new) (drop (length self.old) self.new) }
         ensures end { result ≡ Ok 0 → length self.old < SIZE → IsAtEnd (R.remaining source.new) }
     {
-        let held = self.held.len();
-        self.held.resize(SIZE.min(held + CHUNK), 0).unwrap();
-        read_behind(&mut self.held, held, source)
+        let read = read_behind(&mut self.memory, self.held, source)?;
+        self.held += read;
+        Ok(read)
     }
 
-    // Lets go of the first `n` bytes, or of all where there are fewer. Not by `drain`, with which `dump` took 8% more time.
+    // Lets go of the first `n` bytes, or of all where there are fewer.
+    #[tactic(auto, using(crate::proofs::Intakes::discarded))]
     pub fn discard(&mut self, n: usize)
         ensures { self.new ≡ drop n self.old }
     {
-        let n = n.min(self.held.len());
-        let left = self.held.len() - n;
-        self.held.copy_within(n.., 0);
-        self.held.truncate(left);
+        let n = n.min(self.held);
+        self.memory.copy_within(n..self.held, 0);
+        self.held -= n;
     }
 }
 
-// Reads into `memory` behind its first `held` bytes, which stay, and cuts off what no byte was read into.
-fn read_behind<R: Read>(memory: &mut Vec<u8>, held: usize, source: &mut R) -> io::Result<usize>
-    requires { held ≤ vec_len memory.old }
-    ensures kept { take held memory.new.items ≡ take held memory.old.items }
-    ensures more { vec_len memory.new ≡ held + read_count result }
-    ensures within { vec_len memory.new ≤ vec_len memory.old }
-    ensures capacity { vec_capacity memory.new ≡ vec_capacity memory.old }
-    ensures taken { Consumes (R.remaining source.old) (R.remaining source.new) (drop held memory.new.items) }
-    ensures end { result ≡ Ok 0 → held < vec_len memory.old → IsAtEnd (R.remaining source.new) }
+// Reads into `memory` behind its first `held` bytes, which stay.
+fn read_behind<R: Read>(memory: &mut [u8], held: usize, source: &mut R) -> io::Result<usize>
+    requires { held ≤ length memory.old }
+    ensures kept { take held memory.new ≡ take held memory.old }
+    ensures bound { held + read_count result ≤ length memory.old }
+    ensures taken { Consumes (R.remaining source.old) (R.remaining source.new) (take (read_count result) (drop held memory.new)) }
+    ensures end { result ≡ Ok 0 → held < length memory.old → IsAtEnd (R.remaining source.new) }
 {
-    let read = source.read(&mut memory[held..]);
-    memory.truncate(held + *read.as_ref().unwrap_or(&0));
-    read
+    source.read(&mut memory[held..])
 }

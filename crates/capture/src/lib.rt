@@ -3,3 +3,5 @@
 
 pub mod intake;
 pub mod records;
+#[cfg(test)]
+mod tests;
