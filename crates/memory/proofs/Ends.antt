@@ -1,7 +1,8 @@
 -- Messages between ends: how many, where each stands, and what one more message changes.
-use Rattle.std.proofs.Common.{◌≡◌, ℕ, zero, suc, ◌+◌, ◌-◌, ◌<◌, ◌≤◌, true, List, [], ◌∷◌, ◌++◌, length, take, drop, slice_get, get_or, refl, ap, arith}
+use Rattle.std.proofs.Common.{◌≡◌, ℕ, zero, suc, ◌+◌, ◌-◌, ◌<◌, ◌≤◌, true, List, [], ◌∷◌, ◌++◌, length, take, drop, slice_get, get_or, refl, sym, ap, ◌∙◌, arith}
 use Rattle.std.specs.Option.{option_map, unwrap_or}
 use Rattle.std.proofs.lemmas.List.{drop-take, take-take, length-take-le, take_all, take_min, with_items_is}
+use Rattle.std.proofs.Math.Seq.{drop-append-add, drop-append_seam}
 use Rattle.std.proofs.lemmas.Option.{gets}
 use Rattle.std.proofs.lemmas.Grind.{common_steps}
 use Rattle.memory.specs.Ends.{rise, last_end, between}
@@ -15,6 +16,11 @@ length_between from (e ∷ es) bs = ap suc (length_between e es bs)
 pub rise_low : (from : ℕ) (es : List ℕ) (last : ℕ) → rise from es last ≡ true → from ≤ last
 rise_low from [] last r = grind (arith, common_steps)
 rise_low from (e ∷ es) last r = grind (arith, common_steps, rise_low e es last)
+
+-- ends that rise lead to the last one
+pub rise_last : (from : ℕ) (es : List ℕ) (last : ℕ) → rise from es last ≡ true → last ≡ last_end from es
+rise_last from [] last r = grind (arith, common_steps)
+rise_last from (e ∷ es) last r = grind (arith, common_steps, rise_last e es last)
 
 -- the last end, as code reads it
 pub last_get : (from : ℕ) (es : List ℕ) → unwrap_or (slice_get es (length es - 1)) from ≡ last_end from es
@@ -92,6 +98,16 @@ between_written es bs body rest used r e h =
       between_same 0 es (take used bs ++ (body ++ rest)) bs (last_end 0 es) r,
     )
 
+-- and the free bytes then: one body fewer
+pub free_written : (bs body : List ℕ) (used k : ℕ) → used ≤ length bs → k ≡ length body
+    → drop (used + length body) (take used bs ++ (body ++ drop k (drop used bs))) ≡ drop (length body) (drop used bs)
+free_written bs body used k h e =
+    let front : length (take used bs) ≡ used = length-take-le used bs h in
+    ap (λ n. drop (n + length body) (take used bs ++ (body ++ drop k (drop used bs)))) (sym front)
+    ∙ drop-append-add (take used bs) (body ++ drop k (drop used bs)) (length body)
+    ∙ drop-append_seam body (drop k (drop used bs))
+    ∙ ap (λ n. drop n (drop used bs)) e
+
 -- how many data bytes all messages have
 pub data_between : (es bs : List ℕ) → rise 0 es (last_end 0 es) ≡ true → last_end 0 es ≤ length bs → data_bytes (between 0 es bs) ≡ last_end 0 es
 data_between es bs r h = grind (arith, length_between 0 es bs, data_before 0 es bs (last_end 0 es) (length es) r h, take_all)
@@ -100,4 +116,4 @@ data_between es bs r h = grind (arith, length_between 0 es bs, data_before 0 es 
 pub ruleset reading = (length_between, last_get, last_within, in_order, in_time, get_between, data_before, data_between, take_min, gets)
 
 -- and of a push
-pub ruleset pushing = (length_between, last_end_push, rise_push, data_between, between_written, with_items_is)
+pub ruleset pushing = (length_between, last_end_push, rise_push, data_between, between_written, free_written, with_items_is)

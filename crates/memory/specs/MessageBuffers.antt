@@ -1,12 +1,14 @@
 -- What a message buffer holds, and when it has room.
-use Rattle.std.specs.Prelude.{ℕ, ◌+◌, Bool, ◌&&◌, List, [], ◌∷◌, ◌++◌, length, nat_le, nat_lt}
+use Rattle.std.specs.Prelude.{ℕ, ◌+◌, Bool, ◌&&◌, List, [], ◌∷◌, ◌++◌, length, drop, nat_le, nat_lt}
 
--- the messages that a buffer holds, in the order in which they came; how many entries it has, free ones included; and how many data
--- bytes it has room for, used ones included
+-- the messages that a buffer holds, in the order in which they came; how many entries it has, free ones included; how many data bytes
+-- it has room for, used ones included; the free ones of these; and for how many bytes memory is reserved, which is no fewer
 pub record Buffered : Type 0 where
   pub messages : List (List ℕ)
   pub entries : ℕ
   pub bytes : ℕ
+  pub free : List ℕ
+  pub reserved : ℕ
 
 -- how many data bytes messages have
 abbrev pub data_bytes : List (List ℕ) → ℕ
@@ -17,6 +19,6 @@ data_bytes (m ∷ ms) = length m + data_bytes ms
 abbrev pub has_room : Buffered → ℕ → Bool
 has_room b size = nat_lt (length b.messages) b.entries && nat_le (data_bytes b.messages + size) b.bytes
 
--- a buffer with one more message, at the end
+-- a buffer with one more message, at the end, for which the first free bytes are used
 abbrev pub with_message : Buffered → List ℕ → Buffered
-with_message b m = record b { messages = b.messages ++ m ∷ [] }
+with_message b m = record b { messages = b.messages ++ m ∷ []; free = drop (length m) b.free }

@@ -1,5 +1,5 @@
 // Messages one behind the other, in memory of a stated size.
-ghost use Rattle.std.specs.Prelude.{◌≡◌, ◌≤◌, true, [], length, take, vec_len, vec_capacity, is_ok, slice_get, IfOk, if◌then◌else◌};
+ghost use Rattle.std.specs.Prelude.{◌≡◌, ◌≤◌, true, [], length, take, drop, replicate, vec_len, vec_capacity, is_ok, slice_get, IfOk, if◌then◌else◌};
 ghost use Rattle.std.specs.Option.{option_copied};
 ghost use Rattle.memory.specs.Ends.{rise, last_end, between};
 ghost use Rattle.memory.specs.MessageBuffers.{Buffered, data_bytes, has_room, with_message};
@@ -16,11 +16,11 @@ pub struct MessageBuffer {
     bytes: Vec<u8>,
 }
 
-// Clauses see the messages, and for how many there is memory.
+// Clauses see the messages, and the memory: for how many it is, what stands in the bytes of it that are free, and how much it is.
 impl Model for MessageBuffer {
     ghost Value = { Buffered };
 
-    ghost view = { λ b. record { messages = between 0 b.ends.items b.bytes.items; entries = vec_capacity b.ends; bytes = vec_len b.bytes } };
+    ghost view = { λ b. record { messages = between 0 b.ends.items b.bytes.items; entries = vec_capacity b.ends; bytes = vec_len b.bytes; free = drop (last_end 0 b.ends.items) b.bytes.items; reserved = vec_capacity b.bytes } };
 
     ghost invariant = { λ b. (rise 0 b.ends.items (last_end 0 b.ends.items) ≡ true) × (last_end 0 b.ends.items ≤ vec_len b.bytes) };
 }
@@ -32,7 +32,7 @@ pub struct NoRoom;
 impl MessageBuffer {
     // A buffer with no message, for `entries` messages that have `bytes` bytes together.
     pub fn new(heap: Global, entries: usize, bytes: usize) -> Result<MessageBuffer, AllocError>
-        ensures { IfOk result (λ b. b ≡ record { messages = []; entries = entries; bytes = bytes }) }
+        ensures { IfOk result (λ b. b ≡ record { messages = []; entries = entries; bytes = bytes; free = replicate bytes 0; reserved = b.reserved }) }
     {
         let ends = Vec::with_capacity(heap, entries)?;
         let bytes = vec![in heap; 0; bytes]?;

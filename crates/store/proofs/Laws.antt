@@ -1,5 +1,5 @@
 -- The laws of every store.
-use Rattle.std.proofs.Common.{◌≡◌, ℕ, ◌+◌, ◌-◌, ◌<◌, ◌≤◌, leb, List, [], length, get_or, take, Some, sym, ap, inl, inr, arith}
+use Rattle.std.proofs.Common.{◌≡◌, ℕ, ◌+◌, ◌-◌, ◌<◌, ◌≤◌, true, false, leb, List, [], length, get_or, take, Some, sym, ap, inl, inr, arith}
 use Rattle.std.proofs.lemmas.List.{take_all}
 use Rattle.std.proofs.lemmas.Bool.{cases_order, and_parts, leb-true}
 use Rattle.std.proofs.lemmas.Grind.{common_steps}
@@ -9,6 +9,16 @@ use Rattle.wire.proofs.Sessions.{places_run_on}
 use Rattle.store.specs.Laws.{Stands, PlacesFit, BytesTouchOne}
 use Rattle.store.specs.Stores.{inside, where_inside}
 use Rattle.store.proofs.Touching.{span_rises, touching_is, holder, touching_none}
+
+-- which numbers are those of messages
+pub inside_from : (ms : List (List ℕ)) (n : ℕ) → 1 ≤ n → n ≤ length ms → inside ms n ≡ true
+inside_from ms n low high = grind (arith, common_steps)
+
+pub outside_low : (ms : List (List ℕ)) (n : ℕ) → n < 1 → inside ms n ≡ false
+outside_low ms n h = grind (arith, common_steps)
+
+pub outside_high : (ms : List (List ℕ)) (n : ℕ) → length ms < n → inside ms n ≡ false
+outside_high ms n h = grind (arith, common_steps)
 
 -- an answer that is there is about a message of the list
 pub found : {X : Type 0} (ms : List (List ℕ)) (n : ℕ) (x y : X) → where_inside ms n x ≡ Some y → (1 ≤ n) × ((n ≤ length ms) × (x ≡ y))

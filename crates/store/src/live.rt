@@ -1,5 +1,6 @@
 // A store that grows, in memory of a stated size.
-ghost use Rattle.std.specs.Prelude.{◌≡◌, ◌≤◌, false, [], length, take, is_ok, IfOk};
+ghost use Rattle.std.specs.Prelude.{◌≡◌, ◌≤◌, false, [], length, take, replicate, is_ok, IfOk};
+ghost use Rattle.memory.specs.MessageBuffers.{data_bytes};
 ghost use Rattle.std.specs.Option.{option_copied};
 ghost use Rattle.wire.specs.Segments.{Z};
 ghost use Rattle.wire.specs.Sessions.{span, message_of};
@@ -18,6 +19,8 @@ pub struct Live {
     buffer: MessageBuffer,
     ghost short: { some_long buffer.messages ≡ false },
     ghost placeable: { span buffer.messages ≤ Z },
+    ghost counted: { length buffer.messages ≤ buffer.entries },
+    ghost within: { data_bytes buffer.messages ≤ buffer.bytes },
 }
 
 impl Live {
@@ -25,7 +28,7 @@ impl Live {
 
     // A store with no message, with memory for `entries` messages that have `bytes` data bytes together.
     pub fn new(heap: Global, entries: usize, bytes: usize) -> Result<Live, AllocError>
-        ensures { IfOk result (λ l. kept l ≡ record { messages = []; entries = entries; bytes = bytes }) }
+        ensures { IfOk result (λ l. kept l ≡ record { messages = []; entries = entries; bytes = bytes; free = replicate bytes 0; reserved = (kept l).reserved }) }
     {
         let buffer = MessageBuffer::new(heap, entries, bytes)?;
         Ok(Live { buffer })
@@ -33,7 +36,6 @@ impl Live {
 
     // Adds a message at the end. One that is longer than a message may be is refused, and so is one for which there is no room or
     // whose block would end past the largest Long; nothing then changes.
-    #[tactic(auto, using(crate::proofs::LiveStores::short_push, wire::proofs::Sessions::span_push))]
     pub fn append(&mut self, body: &[u8]) -> Result<(), Fault>
         ensures value { result ≡ append_answer (kept self.old) body.now }
         ensures after { kept self.new ≡ appended result (kept self.old) body.now }
