@@ -16,7 +16,7 @@ spanned d at n p [] x = omega arith
 spanned d at n p (m ∷ ms) x = omega (arith, spanned d (at + (2 + length m)) (n + 1) (p + (2 + length m)) ms x.4)
 
 module _ (e : Expected) (d : List ℕ) (s : Plain) (law : Accepted e d s) where
-  behind_header : 40 + span s.messages ≡ length d
+  pub behind_header : 40 + span s.messages ≡ length d
   behind_header = spanned d 40 s.header.first s.header.offset s.messages law.laid_out
 
   abbrev said : Line

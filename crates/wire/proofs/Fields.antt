@@ -5,6 +5,10 @@ use Rattle.std.proofs.lemmas.List.Edits.{paste_all, paste-paste}
 use Rattle.std.proofs.lemmas.List.{drop-drop, drop-take, drop_at, take_at, take-take, take-append-le, take-append-drop, length-take-le}
 use Rattle.wire.specs.Fields.{le, bytes_of, field, overwritten, Octets}
 
+pub length-bytes_of : (width n : ℕ) → length (bytes_of width n) ≡ width
+length-bytes_of zero n = refl
+length-bytes_of (suc width) n = ap suc (length-bytes_of width (n / 256))
+
 -- what is written reads back
 pub le-bytes_of : (width n : ℕ) → n < 256 ^ width → le (bytes_of width n) ≡ n
 le-bytes_of zero n h = omega arith

@@ -73,7 +73,7 @@ carried_messages (m ∷ ms) = refl
 
 module _ (e : Expected) (d : List ℕ) where
   -- a fault as the reader's answer
-  refused : (f : Fault) → Err f ≡ read_segment e d → ByLaw e d (Err f)
+  pub refused : (f : Fault) → Err f ≡ read_segment e d → ByLaw e d (Err f)
   refused f v = subst (ByLaw e d) (sym v) (reads_by_law e d)
 
   -- what holds where the reader answers with it

@@ -39,7 +39,7 @@ same_fault (Err g) f h = let q : f ≡ g = cc in ap Err q
 
 module _ (k : Kind) (x : ExpectedRequest) (d : List ℕ) where
   -- a fault as the reader's answer
-  refused : (f : Fault) → Err f ≡ read_request k x d → RequestByLaw k x d (Err f)
+  pub refused : (f : Fault) → Err f ≡ read_request k x d → RequestByLaw k x d (Err f)
   refused f v = subst (RequestByLaw k x d) (sym v) (requests_by_law k x d)
 
   -- what holds where the reader answers with it
