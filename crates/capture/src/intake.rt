@@ -16,7 +16,7 @@ pub const SIZE: usize = 1_048_576;
 pub struct Intake {
     // the bytes that are held, and free ones behind them
     memory: Vec<u8>,
-    // how many are held. Not the Vec's length: what a Vec is to be read into is cleared first, at each read, whatever that gives
+    // how many are held. Not the Vec's length: bytes to be read into have to be there, and would be cleared before each read
     held: usize,
 }
 

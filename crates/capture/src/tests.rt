@@ -2,7 +2,7 @@
 use crate::intake::{Intake, SIZE};
 use std::test::Fail;
 
-// All that there is room for. A source that hands out messages, as some sockets do, loses what is not asked for with their first byte.
+// All that there is room for. A source that hands out messages, as some sockets do, drops what one read does not ask for of a message.
 #[test]
 fn fill_asks_for_all_the_room(rt: HostRuntime) -> Result<(), Fail> {
     let bytes = vec![in rt.alloc(); 7u8; SIZE + 200]?;

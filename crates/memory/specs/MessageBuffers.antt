@@ -2,7 +2,7 @@
 use Rattle.std.specs.Prelude.{ℕ, ◌+◌, Bool, ◌&&◌, List, [], ◌∷◌, ◌++◌, length, drop, nat_le, nat_lt}
 
 -- the messages that a buffer holds, in the order in which they came; how many entries it has, free ones included; how many data bytes
--- it has room for, used ones included; the free ones of these; and for how many bytes memory is reserved, which is no fewer
+-- it has room for, used ones included; the free ones of these; and for how many bytes memory is reserved, at least as many
 pub record Buffered : Type 0 where
   pub messages : List (List ℕ)
   pub entries : ℕ

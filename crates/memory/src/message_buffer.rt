@@ -16,7 +16,7 @@ pub struct MessageBuffer {
     bytes: Vec<u8>,
 }
 
-// Clauses see the messages, and the memory: for how many it is, what stands in the bytes of it that are free, and how much it is.
+// Clauses see the messages, how many entries and data bytes there are, what stands in the free bytes, and how much memory is reserved.
 impl Model for MessageBuffer {
     ghost Value = { Buffered };
 

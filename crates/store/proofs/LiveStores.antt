@@ -1,10 +1,9 @@
 -- A live store: places from counts and data bytes, and what an append keeps.
-use Rattle.std.proofs.Common.{◌≡◌, ℕ, ◌+◌, ◌*◌, ◌≤◌, Bool, true, false, if◌then◌else◌, List, [], ◌∷◌, ◌++◌, length, take, nat_le, nat_lt, refl, sym, ap, ◌∙◌, arith, length-append}
+use Rattle.std.proofs.Common.{◌≡◌, ℕ, ◌+◌, ◌*◌, ◌≤◌, Bool, true, false, if◌then◌else◌, List, [], ◌∷◌, ◌++◌, length, take, nat_le, nat_lt, refl, sym, arith, length-append}
 use Rattle.std.proofs.lemmas.List.{length-take-le}
 use Rattle.std.proofs.lemmas.Bool.{and_parts, leb-true, ltb-true}
 use Rattle.std.proofs.lemmas.Grind.{common_steps}
 use Rattle.memory.specs.MessageBuffers.{Buffered, data_bytes, has_room, with_message}
-use Rattle.wire.specs.Segments.{Z}
 use Rattle.wire.specs.Sessions.{span}
 use Rattle.wire.specs.Writing.{some_long}
 use Rattle.wire.proofs.Sessions.{span_push}
@@ -28,34 +27,21 @@ data_push : (ms : List (List ℕ)) (m : List ℕ) → data_bytes (ms ++ m ∷ []
 data_push [] m = omega arith
 data_push (x ∷ ms) m = omega (arith, data_push ms m)
 
--- what is true of all that a live store keeps
-pub record Limits (b : Buffered) : Type 0 where
-  pub short : some_long b.messages ≡ false
-  pub placeable : span b.messages ≤ Z
-  pub counted : length b.messages ≤ b.entries
-  pub within : data_bytes b.messages ≤ b.bytes
-
--- it stays true after an offer, which had room or not
-pub limits_kept : (room : Bool) (b after : Buffered) (m : List ℕ) → Limits b → length m ≤ 1430 → span b.messages + 2 + length m ≤ Z
-    → room ≡ has_room b (length m) → after ≡ (if room then with_message b m else b) → Limits after
-limits_kept false b after m limits small fits had is =
-    let messages = ap (λ (x : Buffered). x.messages) is in
-    let entries = ap (λ (x : Buffered). x.entries) is in
-    let bytes = ap (λ (x : Buffered). x.bytes) is in
-    record {
-      short = ap some_long messages ∙ limits.short;
-      placeable = omega (arith, ap span messages);
-      counted = omega (arith, ap length messages);
-      within = omega (arith, ap data_bytes messages);
-    }
-limits_kept true b after m limits small fits had is =
-    let messages = ap (λ (x : Buffered). x.messages) is in
-    let entries = ap (λ (x : Buffered). x.entries) is in
-    let bytes = ap (λ (x : Buffered). x.bytes) is in
+-- there are no more messages than entries after an offer, which had room or not
+pub counted_kept : (room : Bool) (b after : Buffered) (m : List ℕ) → room ≡ has_room b (length m)
+    → after ≡ (if room then with_message b m else b) → length b.messages ≤ b.entries → length after.messages ≤ after.entries
+counted_kept false b after m had is h = rw is h
+counted_kept true b after m had is h =
     let parts = and_parts (nat_lt (length b.messages) b.entries) (nat_le (data_bytes b.messages + length m) b.bytes) (sym had) in
-    record {
-      short = ap some_long messages ∙ short_push b.messages m limits.short small;
-      placeable = omega (arith, ap span messages, span_push b.messages m);
-      counted = omega (arith, ap length messages, length-append b.messages (m ∷ []), ltb-true (length b.messages) b.entries parts.0);
-      within = omega (arith, ap data_bytes messages, data_push b.messages m, leb-true (data_bytes b.messages + length m) b.bytes parts.1);
-    }
+    rw is (omega (arith, length-append b.messages (m ∷ []), ltb-true (length b.messages) b.entries parts.0))
+
+-- and no more data bytes than there is memory for
+pub within_kept : (room : Bool) (b after : Buffered) (m : List ℕ) → room ≡ has_room b (length m)
+    → after ≡ (if room then with_message b m else b) → data_bytes b.messages ≤ b.bytes → data_bytes after.messages ≤ after.bytes
+within_kept false b after m had is h = rw is h
+within_kept true b after m had is h =
+    let parts = and_parts (nat_lt (length b.messages) b.entries) (nat_le (data_bytes b.messages + length m) b.bytes) (sym had) in
+    rw is (omega (arith, data_push b.messages m, leb-true (data_bytes b.messages + length m) b.bytes parts.1))
+
+-- what the check is to try at the goals of an append
+pub ruleset appending = (short_push, span_push, counted_kept, within_kept)

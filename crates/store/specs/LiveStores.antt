@@ -8,7 +8,7 @@ use Rattle.wire.specs.Segments.{Z}
 use Rattle.wire.specs.Sessions.{span}
 use Rattle.store.specs.declared.live.Live.{Live}
 
--- the messages that were appended to a live store, and for how many there is memory
+-- what a live store keeps: the messages that were appended, and their memory
 abbrev pub kept : Live → Buffered
 kept l = l.buffer
 

@@ -12,8 +12,8 @@ use std::alloc::{AllocError, Global};
 use wire::fault::{Fault, Refusal};
 use wire::limits::{LONG_MAX, MAX_MESSAGE};
 
-// The messages that were appended. It has ghost fields and no model: it is to be a `Store`, whose law asks these facts of every value,
-// and a model's value does not have them.
+// The messages that were appended. It has ghost fields and no model: it is to be a `Store`, whose law asks the first two
+// of these facts of every value, and a model's value does not have them.
 #[derive(Drop)]
 pub struct Live {
     buffer: MessageBuffer,
@@ -36,6 +36,7 @@ impl Live {
 
     // Adds a message at the end. One that is longer than a message may be is refused, and so is one for which there is no room or
     // whose block would end past the largest Long; nothing then changes.
+    #[tactic(auto, using(crate::proofs::LiveStores::appending))]
     pub fn append(&mut self, body: &[u8]) -> Result<(), Fault>
         ensures value { result ≡ append_answer (kept self.old) body.now }
         ensures after { kept self.new ≡ appended result (kept self.old) body.now }
